@@ -3,8 +3,8 @@ use Rattle.std.specs.Prelude.{◌≡◌, ℕ, zero, suc, ◌+◌, ◌<◌, ◌�
 use Rattle.std.proofs.Common.{ap, subst, arith, eqb-true}
 use Rattle.std.proofs.lemmas.Bool.Decides.{nat_tests}
 use Rattle.std.specs.FinMap as map
-use Rattle.sim_base.specs.declared.object.ObjectId.{ObjectId}
 use Rattle.sim_base.specs.declared.time.Time.{Time}
+use Rattle.host_fds.specs.declared.file_id.FileId.{FileId}
 use Rattle.host_fds.specs.Descriptors.{Descriptors, limit, IsLowestFree}
 use Rattle.host_wants.specs.declared.error.Refusal.{Refusal}
 use Rattle.file_calls.specs.declared.descriptors.Descriptor.{Descriptor}
@@ -20,7 +20,7 @@ taken_from fds from fd here later lower least more = taken_at (nat_eq from lower
   taken_at true e = subst (λ n. IsSome (map.get fds n)) (eqb-true from lower e) here
   taken_at false e = later lower (grind (arith, nat_tests)) more
 
-first_free_cases : (fds : Descriptors) (from count fd : ℕ) (o : Option ObjectId) → map.get fds from ≡ o
+first_free_cases : (fds : Descriptors) (from count fd : ℕ) (o : Option FileId) → map.get fds from ≡ o
     → (first_free fds (from + 1) count ≡ Some fd → IsFirstFree fds (from + 1) count fd)
     → (if is_none o then Some from else first_free fds (from + 1) count) ≡ Some fd → IsFirstFree fds from (suc count) fd
 first_free_cases fds from count fd None here later e =

@@ -3,7 +3,6 @@ use Rattle.std.proofs.Common.{◌≡◌, ℕ, Bool, true, false, not, ◌&&◌, 
 use Rattle.std.specs.Prelude.{IfOk}
 use Rattle.sim_base.specs.declared.errno.Errno as errno_type
 use Rattle.sim_base.specs.declared.errno.Errno.TheVariants.{Ebadf, Efault}
-use Rattle.sim_base.specs.declared.object.ObjectId.{ObjectId}
 use Rattle.sim_base.specs.Refusals.{◌>>=◌, ◌>>◌, refuse_if, or_refuse}
 use Rattle.host_files.specs.declared.file.Object.{Object}
 use Rattle.host_files.specs.declared.file.Object.TheVariants as kind
@@ -16,6 +15,7 @@ use Rattle.host_calls.specs.declared.parts.Reaction.TheVariants.{Value, Waits}
 use Rattle.file_calls.specs.declared.task.Task.{Task}
 use Rattle.file_calls.specs.declared.task.Shared.{Shared}
 use Rattle.std.specs.FinMap as map
+use Rattle.host_fds.specs.declared.file_id.FileId.{FileId}
 use Rattle.host_calls.specs.Calls.{reacts, is_wait}
 use Rattle.file_calls.specs.Descriptors.{descriptor, descriptor_by}
 use Rattle.file_calls.specs.EpollControl.{epoll_number}
@@ -117,7 +117,7 @@ plainly_is (Ok (a, local)) s = refl
 plainly_is (Err r) s = refl
 
 -- looking a descriptor up
-descriptor_by_never : (o : Option ObjectId) (files : FilesState) → Never (descriptor_by o files)
+descriptor_by_never : (o : Option FileId) (files : FilesState) → Never (descriptor_by o files)
 descriptor_by_never None files = refl
 descriptor_by_never (Some id) files = never_bind (or_refuse (file_at id files) (refusal.Errno Ebadf)) _ (never_or_refuse (file_at id files) Ebadf) (λ file. refl)
 

@@ -4,12 +4,12 @@ use Rattle.std.specs.Prelude.{is_none}
 use Rattle.std.specs.FinMap as map
 use Rattle.sim_base.specs.Refusals.{refuse_if, or_refuse}
 use Rattle.sim_base.specs.declared.errno.Errno.TheVariants.{Eacces, Eafnosupport, Eexist, Efault, Einval, Emfile, Enoent, Eprotonosupport}
-use Rattle.sim_base.specs.declared.object.ObjectId.{ObjectId}
 use Rattle.sim_base.specs.declared.time.Time.{Time}
 use Rattle.guest_mem.specs.Memory.{Memory}
 use Rattle.guest_args.specs.Address.{inet}
 use Rattle.guest_args.specs.Span.{counted, can_write, int_size, span}
 use Rattle.host_timers.specs.Clock.{clock_monotonic}
+use Rattle.host_fds.specs.declared.file_id.FileId.{FileId}
 use Rattle.host_fds.specs.declared.epoll.Watch.{Watch}
 use Rattle.host_fds.specs.Descriptors.{Descriptors, limit}
 use Rattle.host_files.specs.declared.file.Object.{Object}
@@ -62,7 +62,7 @@ first_is_free fds from zero fd e = cc
 first_is_free fds from (suc count) fd e =
     by_first (map.get fds from) refl (λ later. first_is_free fds (from + 1) count fd later) e
   where
-    by_first : (o : Option ObjectId) → map.get fds from ≡ o → (first_free fds (from + 1) count ≡ Some fd → map.get fds fd ≡ None) → (if is_none o then Some from else first_free fds (from + 1) count) ≡ Some fd → map.get fds fd ≡ None
+    by_first : (o : Option FileId) → map.get fds from ≡ o → (first_free fds (from + 1) count ≡ Some fd → map.get fds fd ≡ None) → (if is_none o then Some from else first_free fds (from + 1) count) ≡ Some fd → map.get fds fd ≡ None
     by_first None there later e =
         let same : from ≡ fd = cc in subst (λ (n : ℕ). map.get fds n ≡ None) same there
     by_first (Some id) there later e = later e
@@ -73,7 +73,7 @@ first_is_behind fds from zero fd e = cc
 first_is_behind fds from (suc count) fd e =
     by_first (map.get fds from) (λ later. first_is_behind fds (from + 1) count fd later) e
   where
-    by_first : (o : Option ObjectId) → (first_free fds (from + 1) count ≡ Some fd → from + 1 ≤ fd) → (if is_none o then Some from else first_free fds (from + 1) count) ≡ Some fd → from ≤ fd
+    by_first : (o : Option FileId) → (first_free fds (from + 1) count ≡ Some fd → from + 1 ≤ fd) → (if is_none o then Some from else first_free fds (from + 1) count) ≡ Some fd → from ≤ fd
     by_first None later e = let same : from ≡ fd = cc in omega (arith, same)
     by_first (Some id) later e = let behind = later e in omega (arith, behind)
 

@@ -3,8 +3,8 @@ use Rattle.std.proofs.Common.{◌≡◌, ◌≢◌, ℕ, ◌||◌, Bool, true, f
 use Rattle.std.specs.FinMap as map
 use Rattle.sim_base.specs.Refusals.{◌>>=◌, or_refuse}
 use Rattle.sim_base.specs.declared.errno.Errno.TheVariants.{Ebadf}
-use Rattle.sim_base.specs.declared.object.ObjectId.{ObjectId}
 use Rattle.sim_base.specs.declared.time.Time.{Time}
+use Rattle.host_fds.specs.declared.file_id.FileId.{FileId}
 use Rattle.host_fds.specs.declared.epoll.Watch.{Watch}
 use Rattle.host_fds.specs.declared.pipe.End.{End}
 use Rattle.host_fds.specs.declared.pipe.End.TheVariants.{Reading, Writing}
@@ -313,7 +313,7 @@ sockets_ended now (kind.Epoll k) shared t = rest_ended (kind.Epoll k) t
 sockets_ended now (kind.Udp k) shared t = udp_ended k t (closes_udp k t) (closes_udp_there t k)
 sockets_ended now (kind.Tcp k) shared t = tcp_ended k t (closes_tcp now k t shared.outlet).0 (closes_tcp_there t now k shared.outlet)
 
-abbrev pub closed_view : View → ℕ → ObjectId → Object → SocketsRecord → View
+abbrev pub closed_view : View → ℕ → FileId → Object → SocketsRecord → View
 closed_view v fd id object t = record {
   table = map.remove v.table fd;
   files = closed id (files_ended object v.files);
@@ -354,7 +354,7 @@ module _ (now : ℕ) (v : View) (fd : ℕ) (d : Descriptor) (t : SocketsRecord) 
       ap (λ (x : File). object_alone x.object) (some_same f g (sym a ∙ (file_before n g b).1))
 
   module _ (process : ℕ) (tasks : List (Option Task)) (h : Sound process tasks v) where
-    closed_opened : (gd : ℕ) (id : ObjectId) → map.get w.table gd ≡ Some id → is_some (at id.number w.files.files) ≡ true
+    closed_opened : (gd : ℕ) (id : FileId) → map.get w.table gd ≡ Some id → is_some (at id.number w.files.files) ≡ true
     closed_opened gd id e =
         let before = removed v.table fd gd id e in
         file_after id.number (λ same. before.0 (sym (h.apart fd gd d.id id named before.1 same))) (h.opened gd id before.1)
@@ -377,7 +377,7 @@ module _ (now : ℕ) (v : View) (fd : ℕ) (d : Descriptor) (t : SocketsRecord) 
     closed_watched : (k : ℕ) (x : Watch) → HasEntry k w.epolls x → is_some (map.get w.table x.fd) ≡ true
     closed_watched k x e =
         let before = entry_before k x e in
-        subst (λ (o : Option ObjectId). is_some o ≡ true) (sym (remove_other v.table fd x.fd (another_fd x fd before.1))) (h.watched k x before.0)
+        subst (λ (o : Option FileId). is_some o ≡ true) (sym (remove_other v.table fd x.fd (another_fd x fd before.1))) (h.watched k x before.0)
 
     closed_sound : Sound process tasks w
     closed_sound = record {
@@ -413,7 +413,7 @@ module _ (now : ℕ) (v : View) (fd : ℕ) (why : Refusal) (none : descriptor_by
   abbrev dropped_view : View
   dropped_view = record { table = map.remove v.table fd; files = v.files; epolls = v.epolls; sockets = v.sockets }
 
-  named_no_file : (o : Option ObjectId) → map.get v.table fd ≡ o → ((id : ObjectId) → o ≡ Some id → is_some (at id.number v.files.files) ≡ true) → descriptor_by o v.files ≡ Err why → is_some o ≡ true → ⊥
+  named_no_file : (o : Option FileId) → map.get v.table fd ≡ o → ((id : FileId) → o ≡ Some id → is_some (at id.number v.files.files) ≡ true) → descriptor_by o v.files ≡ Err why → is_some o ≡ true → ⊥
   named_no_file None e h k is_open = cc
   named_no_file (Some id) e h k is_open =
       no_file (at id.number v.files.files) (h id refl) k
@@ -433,7 +433,7 @@ module _ (now : ℕ) (v : View) (fd : ℕ) (why : Refusal) (none : descriptor_by
       single = h.single;
       watched = λ k x e.
           let is_open = h.watched k x e in
-          subst (λ (o : Option ObjectId). is_some o ≡ true)
+          subst (λ (o : Option FileId). is_some o ≡ true)
           (sym (remove_other v.table fd x.fd (λ same.
           named_no_file (map.get v.table fd) refl (λ id q. h.opened fd id q) none (subst (λ (n : ℕ). is_some (map.get v.table n) ≡ true) same is_open)))) is_open;
     };

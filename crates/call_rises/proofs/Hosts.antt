@@ -3,11 +3,11 @@ use Rattle.std.proofs.Common.{◌≡◌, ◌≢◌, ℕ, zero, suc, true, List, 
 use Rattle.std.specs.FinMap as map
 use Rattle.std.specs.Ordering.{nat_cmp}
 use Rattle.sim_base.specs.declared.address.Ip.{Ip}
-use Rattle.sim_base.specs.declared.object.ObjectId.{ObjectId}
 use Rattle.sim_base.specs.declared.time.Time.{Time}
 use Rattle.guest_mem.specs.Memory.{Memory}
 use Rattle.host_wants.specs.Wanted.{Wanted}
 use Rattle.host_sockets.specs.Sockets.{SocketsRecord}
+use Rattle.host_fds.specs.declared.file_id.FileId.{FileId}
 use Rattle.host_fds.specs.declared.epoll.Watch.{Watch}
 use Rattle.host_fds.specs.declared.pipe.End.{End}
 use Rattle.host_fds.specs.declared.pipe.End.TheVariants.{Reading, Writing}
@@ -29,14 +29,14 @@ use Rattle.call_rises.proofs.Opening.{with_open, opened_sound, file_still}
 use Rattle.call_rises.proofs.There.{AllStay, all_stay}
 use Rattle.call_rises.proofs.Views.{View, view, IsOthers, Sound, SameObject, Came, came_as_it_was, came_told, came_unsaid, Named, Grows, grows_object, grows_so, by_number, some_same, insert_other}
 
-id_same : (id jd : ObjectId) → id.number ≡ jd.number → id ≡ jd
+id_same : (id jd : FileId) → id.number ≡ jd.number → id ≡ jd
 id_same id jd e = ap (λ (n : ℕ). record { number = n }) e
 
 -- a name is one of a process that is there
-abbrev NamedBy : ℕ → Option Task → ObjectId → Type 0
+abbrev NamedBy : ℕ → Option Task → FileId → Type 0
 NamedBy fd o id = (task : Task) × ((o ≡ Some task) × (map.get task.table fd ≡ Some id))
 
-named_by : (fd : ℕ) (o : Option Task) (id : ObjectId) → named_in fd o ≡ Some id → NamedBy fd o id
+named_by : (fd : ℕ) (o : Option Task) (id : FileId) → named_in fd o ≡ Some id → NamedBy fd o id
 named_by fd None id e = let no : ⊥ = cc in absurd no
 named_by fd (Some task) id e = (task, (refl, e))
 
@@ -45,15 +45,15 @@ pub sound_of : (h : PartsRecord) (process : ℕ) (task : Task) → at process h.
 sound_of h process task there hold = record {
   opened = λ fd id e. hold.opened process fd id (mine fd id e);
   others = λ n o. subst (λ (m : ℕ). is_some (at m h.shared.files.files) ≡ true) o.number (hold.opened o.other o.fd o.id o.names);
-  apart = λ fd gd id jd e k same. (hold.apart process fd process gd id (mine fd id e) (mine gd id (k ∙ ap (λ (x : ObjectId). Some x) (sym (id_same id jd same))))).1;
+  apart = λ fd gd id jd e k same. (hold.apart process fd process gd id (mine fd id e) (mine gd id (k ∙ ap (λ (x : FileId). Some x) (sym (id_same id jd same))))).1;
   apart_others = λ fd id e o.
-      o.apart (hold.apart process fd o.other o.fd id (mine fd id e) (o.names ∙ ap (λ (x : ObjectId). Some x) (id_same o.id id o.number))).0;
+      o.apart (hold.apart process fd o.other o.fd id (mine fd id e) (o.names ∙ ap (λ (x : FileId). Some x) (id_same o.id id o.number))).0;
   there = λ n file e. hold.there (record { number = n }) file e;
-  single = λ n m f g e k same one. ap (λ (x : ObjectId). x.number) (hold.single (record { number = n }) (record { number = m }) f g e k same one);
+  single = λ n m f g e k same one. ap (λ (x : FileId). x.number) (hold.single (record { number = n }) (record { number = m }) f g e k same one);
   watched = λ k w e. hold.watched process k task w there e;
 }
   where
-    mine : (fd : ℕ) (id : ObjectId) → map.get task.table fd ≡ Some id → names process fd h.tasks ≡ Some id
+    mine : (fd : ℕ) (id : FileId) → map.get task.table fd ≡ Some id → names process fd h.tasks ≡ Some id
     mine fd id e = ap (λ (o : Option Task). named_in fd o) there ∙ e
 
 -- an object that is there before and after is there all along
@@ -91,7 +91,7 @@ alone_there (kind.Udp n) files sockets = refl
 alone_there (kind.Tcp n) files sockets = refl
 
 -- what is the same before and after, together
-names_one : (hosts : List Ip) (now : ℕ) (x y : PartsRecord) (m : FilesMove now x.shared.files y.shared.files) (s : SocketsMove hosts x.sockets y.sockets) (id jd : ObjectId) (f g : File) → NamesHold x.tasks x.shared.files x.sockets → NamesHold y.tasks y.shared.files y.sockets → file_at id x.shared.files ≡ Some f → file_at jd y.shared.files ≡ Some g → id ≡ jd → object_alone f.object ≡ object_alone g.object → NamesOne hosts now x y m s id jd f g
+names_one : (hosts : List Ip) (now : ℕ) (x y : PartsRecord) (m : FilesMove now x.shared.files y.shared.files) (s : SocketsMove hosts x.sockets y.sockets) (id jd : FileId) (f g : File) → NamesHold x.tasks x.shared.files x.sockets → NamesHold y.tasks y.shared.files y.sockets → file_at id x.shared.files ≡ Some f → file_at jd y.shared.files ≡ Some g → id ≡ jd → object_alone f.object ≡ object_alone g.object → NamesOne hosts now x y m s id jd f g
 names_one hosts now x y m s id jd f g before after e k same alone = record {
   same_file = same;
   same_object = alone;
@@ -116,14 +116,14 @@ module _ (h : PartsRecord) (process : ℕ) (p : Place) (left : Task) (is : p.tas
       (λ apart. others apart (sym (set_other process q p.task h.tasks apart) ∙ e))
 
   -- a descriptor is one of the process or another's
-  whose : (P : Type 0) (q fd : ℕ) (id : ObjectId) → names q fd y.tasks ≡ Some id → (process ≡ q → map.get left.table fd ≡ Some id → P) → (process ≢ q → names q fd h.tasks ≡ Some id → P) → P
+  whose : (P : Type 0) (q fd : ℕ) (id : FileId) → names q fd y.tasks ≡ Some id → (process ≡ q → map.get left.table fd ≡ Some id → P) → (process ≢ q → names q fd h.tasks ≡ Some id → P) → P
   whose P q fd id e mine others =
       let named = named_by fd (at q y.tasks) id e in
       who P q named.0 named.1.0
       (λ same left_is. mine same (subst (λ (t : Task). map.get t.table fd ≡ Some id) (sym left_is) named.1.1))
       (λ apart there. others apart (ap (λ (o : Option Task). named_in fd o) there ∙ named.1.1))
 
-  others_file : (q fd : ℕ) (id : ObjectId) → process ≢ q → names q fd h.tasks ≡ Some id → IsOthers process h.tasks id.number
+  others_file : (q fd : ℕ) (id : FileId) → process ≢ q → names q fd h.tasks ≡ Some id → IsOthers process h.tasks id.number
   others_file q fd id apart e = record { other = q; fd = fd; id = id; apart = apart; names = e; number = refl }
 
   pub hold_placed : Sound process h.tasks after_view → NamesHold h.tasks h.shared.files h.sockets → NamesHold y.tasks p.shared.files p.sockets
@@ -154,7 +154,7 @@ module _ (h : PartsRecord) (process : ℕ) (p : Place) (left : Task) (is : p.tas
     hold_after hold =
         hold_placed (named.sound process h.tasks (sound_of h process before there hold)) hold
 
-    same_name : NamesHold h.tasks h.shared.files h.sockets → (q fd : ℕ) (id jd : ObjectId) → names q fd h.tasks ≡ Some id → names q fd y.tasks ≡ Some jd → (id ≡ jd) × SameObject before_view after_view id.number
+    same_name : NamesHold h.tasks h.shared.files h.sockets → (q fd : ℕ) (id jd : FileId) → names q fd h.tasks ≡ Some id → names q fd y.tasks ≡ Some jd → (id ≡ jd) × SameObject before_view after_view id.number
     same_name hold q fd id jd e k =
         let sound = sound_of h process before there hold in
         whose ((id ≡ jd) × SameObject before_view after_view id.number) q fd jd k
@@ -164,11 +164,11 @@ module _ (h : PartsRecord) (process : ℕ) (p : Place) (left : Task) (is : p.tas
         (λ apart theirs.
         (some_same id jd (sym e ∙ theirs), named.others process h.tasks sound id.number (others_file q fd id apart e)))
 
-    pub one_after : (hosts : List Ip) (m : FilesMove now.nanos h.shared.files p.shared.files) (s : SocketsMove hosts h.sockets p.sockets) → NamesHold h.tasks h.shared.files h.sockets → (q fd : ℕ) (id jd : ObjectId) (f g : File) → names q fd h.tasks ≡ Some id → names q fd y.tasks ≡ Some jd → file_at id h.shared.files ≡ Some f → file_at jd p.shared.files ≡ Some g → NamesOne hosts now.nanos h y m s id jd f g
+    pub one_after : (hosts : List Ip) (m : FilesMove now.nanos h.shared.files p.shared.files) (s : SocketsMove hosts h.sockets p.sockets) → NamesHold h.tasks h.shared.files h.sockets → (q fd : ℕ) (id jd : FileId) (f g : File) → names q fd h.tasks ≡ Some id → names q fd y.tasks ≡ Some jd → file_at id h.shared.files ≡ Some f → file_at jd p.shared.files ≡ Some g → NamesOne hosts now.nanos h y m s id jd f g
     one_after hosts m s hold q fd id jd f g e k there_f there_g =
         let same = same_name hold q fd id jd e k in
         names_one hosts now.nanos h y m s id jd f g hold (hold_after hold) there_f there_g same.0
-        (same.1 f g there_f (subst (λ (x : ObjectId). file_at x p.shared.files ≡ Some g) (sym same.0) there_g))
+        (same.1 f g there_f (subst (λ (x : FileId). file_at x p.shared.files ≡ Some g) (sym same.0) there_g))
 
     pub were_after : (q : ℕ) (last : Task) → at q y.tasks ≡ Some last → (first : Task) × (at q h.tasks ≡ Some first)
     were_after q last e =
@@ -202,10 +202,10 @@ placed_same (suc k) (x ∷ slots) zero = refl
 placed_same (suc k) (x ∷ slots) (suc q) = placed_same k slots q
 
 module _ (now : Time) (x y : PartsRecord) (tasks : (q : ℕ) → at q y.tasks ≡ at q x.tasks) (files : x.shared.files.files ≡ y.shared.files.files) (grows : Grows x.shared.files y.shared.files) (stay : AllStay x.sockets y.sockets) where
-  name_was : (q fd : ℕ) (id : ObjectId) → names q fd y.tasks ≡ Some id → names q fd x.tasks ≡ Some id
+  name_was : (q fd : ℕ) (id : FileId) → names q fd y.tasks ≡ Some id → names q fd x.tasks ≡ Some id
   name_was q fd id e = ap (λ (o : Option Task). named_in fd o) (sym (tasks q)) ∙ e
 
-  file_was : (id : ObjectId) (f : File) → file_at id y.shared.files ≡ Some f → file_at id x.shared.files ≡ Some f
+  file_was : (id : FileId) (f : File) → file_at id y.shared.files ≡ Some f → file_at id x.shared.files ≡ Some f
   file_was id f e = ap (λ (fs : List (Option File)). at id.number fs) files ∙ e
 
   pub hold_rests : NamesHold x.tasks x.shared.files x.sockets → NamesHold y.tasks y.shared.files y.sockets
@@ -217,10 +217,10 @@ module _ (now : Time) (x y : PartsRecord) (tasks : (q : ℕ) → at q y.tasks �
     watched = λ q k task w e entry. hold.watched q k task w (sym (tasks q) ∙ e) entry;
   }
 
-  pub one_rests : (hosts : List Ip) (m : FilesMove now.nanos x.shared.files y.shared.files) (s : SocketsMove hosts x.sockets y.sockets) → NamesHold x.tasks x.shared.files x.sockets → (q fd : ℕ) (id jd : ObjectId) (f g : File) → names q fd x.tasks ≡ Some id → names q fd y.tasks ≡ Some jd → file_at id x.shared.files ≡ Some f → file_at jd y.shared.files ≡ Some g → NamesOne hosts now.nanos x y m s id jd f g
+  pub one_rests : (hosts : List Ip) (m : FilesMove now.nanos x.shared.files y.shared.files) (s : SocketsMove hosts x.sockets y.sockets) → NamesHold x.tasks x.shared.files x.sockets → (q fd : ℕ) (id jd : FileId) (f g : File) → names q fd x.tasks ≡ Some id → names q fd y.tasks ≡ Some jd → file_at id x.shared.files ≡ Some f → file_at jd y.shared.files ≡ Some g → NamesOne hosts now.nanos x y m s id jd f g
   one_rests hosts m s hold q fd id jd f g e k there_f there_g =
       let same : id ≡ jd = some_same id jd (sym e ∙ name_was q fd jd k) in
-      let same_file : f ≡ g = some_same f g (sym there_f ∙ subst (λ (i : ObjectId). file_at i x.shared.files ≡ Some g) (sym same) (file_was jd g there_g)) in
+      let same_file : f ≡ g = some_same f g (sym there_f ∙ subst (λ (i : FileId). file_at i x.shared.files ≡ Some g) (sym same) (file_was jd g there_g)) in
       names_one hosts now.nanos x y m s id jd f g hold (hold_rests hold) there_f there_g same (ap (λ (z : File). object_alone z.object) same_file)
 
   pub marks_rest : MarksMove now x y
@@ -233,10 +233,10 @@ module _ (process : ℕ) (memory : Memory) (h : PartsRecord) where
   abbrev no_view : View
   no_view = view (fresh_task memory) h.shared h.sockets
 
-  none_named : (fd : ℕ) (id : ObjectId) → map.get {R = nat_cmp} map.empty fd ≡ Some id → ⊥
+  none_named : (fd : ℕ) (id : FileId) → map.get {R = nat_cmp} map.empty fd ≡ Some id → ⊥
   none_named fd id e = let no : None ≡ Some id = sym (map.get-empty nat_cmp fd) ∙ e in none_some id no
     where
-      none_some : (id : ObjectId) → None ≡ Some id → ⊥
+      none_some : (id : FileId) → None ≡ Some id → ⊥
       none_some id e = cc
 
   no_entry : (k : ℕ) (w : Watch) → HasEntry k [] w → ⊥
@@ -252,7 +252,7 @@ module _ (process : ℕ) (memory : Memory) (h : PartsRecord) where
     apart = λ fd gd id jd e k same. absurd (none_named fd id e);
     apart_others = λ fd id e o. none_named fd id e;
     there = λ n file e. hold.there (record { number = n }) file e;
-    single = λ n m f g e k same one. ap (λ (x : ObjectId). x.number) (hold.single (record { number = n }) (record { number = m }) f g e k same one);
+    single = λ n m f g e k same one. ap (λ (x : FileId). x.number) (hold.single (record { number = n }) (record { number = m }) f g e k same one);
     watched = λ k w e. absurd (no_entry k w e);
   }
 
@@ -303,11 +303,11 @@ module _ (process : ℕ) (memory : Memory) (h : PartsRecord) where
       (file_still 0 input_view 1 (std_file kind.Output) input_view.files [] h.sockets output_free refl n f
       (file_still 0 no_view 0 (std_file kind.Input) h.shared.files [] h.sockets input_free refl n f e))
 
-  pub one_begun : (hosts : List Ip) (now : Time) (m : FilesMove now.nanos h.shared.files begun_parts.shared.files) (s : SocketsMove hosts h.sockets begun_parts.sockets) → NamesHold h.tasks h.shared.files h.sockets → (q fd : ℕ) (id jd : ObjectId) (f g : File) → process ≢ q → names q fd h.tasks ≡ Some id → names q fd begun_parts.tasks ≡ Some jd → file_at id h.shared.files ≡ Some f → file_at jd begun_parts.shared.files ≡ Some g → NamesOne hosts now.nanos h begun_parts m s id jd f g
+  pub one_begun : (hosts : List Ip) (now : Time) (m : FilesMove now.nanos h.shared.files begun_parts.shared.files) (s : SocketsMove hosts h.sockets begun_parts.sockets) → NamesHold h.tasks h.shared.files h.sockets → (q fd : ℕ) (id jd : FileId) (f g : File) → process ≢ q → names q fd h.tasks ≡ Some id → names q fd begun_parts.tasks ≡ Some jd → file_at id h.shared.files ≡ Some f → file_at jd begun_parts.shared.files ≡ Some g → NamesOne hosts now.nanos h begun_parts m s id jd f g
   one_begun hosts now m s hold q fd id jd f g apart e k there_f there_g =
       let still : names q fd begun_parts.tasks ≡ Some id = ap (λ (o : Option Task). named_in fd o) (set_other process q (Some begun.0) h.tasks apart) ∙ e in
       let same : id ≡ jd = some_same id jd (sym still ∙ k) in
-      let same_file : f ≡ g = some_same f g (sym (file_stays id.number f there_f) ∙ subst (λ (i : ObjectId). file_at i begun_parts.shared.files ≡ Some g) (sym same) there_g) in
+      let same_file : f ≡ g = some_same f g (sym (file_stays id.number f there_f) ∙ subst (λ (i : FileId). file_at i begun_parts.shared.files ≡ Some g) (sym same) there_g) in
       names_one hosts now.nanos h begun_parts m s id jd f g hold (hold_begun hold) there_f there_g same (ap (λ (z : File). object_alone z.object) same_file)
 
   -- it has no entries, and those of the others stay

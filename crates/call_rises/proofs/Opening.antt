@@ -1,7 +1,7 @@
 -- a file is opened, and put in another one's place
 use Rattle.std.proofs.Common.{◌≡◌, ◌≢◌, ℕ, Bool, true, false, List, Option, Some, None, is_some, refl, sym, ap, subst, ◌∙◌}
 use Rattle.std.specs.FinMap as map
-use Rattle.sim_base.specs.declared.object.ObjectId.{ObjectId}
+use Rattle.host_fds.specs.declared.file_id.FileId.{FileId}
 use Rattle.host_fds.specs.declared.epoll.Watch.{Watch}
 use Rattle.host_fds.specs.declared.pipe.End.TheVariants.{Reading, Writing}
 use Rattle.host_fds.specs.Descriptors.{Descriptors}
@@ -72,20 +72,20 @@ module _ (now : ℕ) (v : View) (fd : ℕ) (file : File) (y : FilesState) (epoll
       (λ apart. old (sym (other n apart) ∙ e))
 
   -- a descriptor is the new one or an old one
-  either_name : (P : Type 0) (gd : ℕ) (id : ObjectId) → map.get w.table gd ≡ Some id → (gd ≡ fd → next_file y ≡ id → P) → (gd ≢ fd → map.get v.table gd ≡ Some id → P) → P
+  either_name : (P : Type 0) (gd : ℕ) (id : FileId) → map.get w.table gd ≡ Some id → (gd ≡ fd → next_file y ≡ id → P) → (gd ≢ fd → map.get v.table gd ≡ Some id → P) → P
   either_name P gd id e new old =
       by_number gd fd P
       (λ same. new same (some_same (next_file y) id (sym (subst (λ (m : ℕ). map.get w.table m ≡ Some (next_file y)) (sym same) (insert_here v.table fd (next_file y))) ∙ e)))
       (λ apart. old apart (sym (insert_other v.table fd (next_file y) gd apart) ∙ e))
 
-  number_of : (id : ObjectId) → next_file y ≡ id → N ≡ id.number
-  number_of id e = ap (λ (x : ObjectId). x.number) e
+  number_of : (id : FileId) → next_file y ≡ id → N ≡ id.number
+  number_of id e = ap (λ (x : FileId). x.number) e
 
   open_apart : (gd : ℕ) → is_some (map.get v.table gd) ≡ true → gd ≢ fd
   open_apart gd h same =
       not_none (map.get v.table gd) (subst (λ (m : ℕ). map.get v.table m ≡ None) (sym same) free) h
 
-  pub opened_own : (gd : ℕ) (id jd : ObjectId) → map.get v.table gd ≡ Some id → map.get w.table gd ≡ Some jd → (id ≡ jd) × SameObject v w id.number
+  pub opened_own : (gd : ℕ) (id jd : FileId) → map.get v.table gd ≡ Some id → map.get w.table gd ≡ Some jd → (id ≡ jd) × SameObject v w id.number
   opened_own gd id jd e k =
       let same = insert_other v.table fd (next_file y) gd (open_apart gd (is_there_of (map.get v.table gd) id e)) in
       (some_same id jd (sym e ∙ (sym same ∙ k)), same_objects id.number)
@@ -121,7 +121,7 @@ module _ (now : ℕ) (v : View) (fd : ℕ) (file : File) (y : FilesState) (epoll
           (λ m_old. h.single n m f g n_old m_old same one));
       watched = λ k x e.
           let is_open = h.watched k x (entries k x e) in
-          subst (λ (o : Option ObjectId). is_some o ≡ true) (sym (insert_other v.table fd (next_file y) x.fd (open_apart x.fd is_open))) is_open;
+          subst (λ (o : Option FileId). is_some o ≡ true) (sym (insert_other v.table fd (next_file y) x.fd (open_apart x.fd is_open))) is_open;
     }
 
     pub opened_named : ((process : ℕ) (tasks : List (Option Task)) → Sound process tasks v → IsNew v file) → Named now v w
@@ -133,12 +133,12 @@ module _ (now : ℕ) (v : View) (fd : ℕ) (file : File) (y : FilesState) (epoll
     }
 
   -- what it opened before stays
-  pub still_named : (gd : ℕ) (id : ObjectId) → map.get v.table gd ≡ Some id → map.get w.table gd ≡ Some id
+  pub still_named : (gd : ℕ) (id : FileId) → map.get v.table gd ≡ Some id → map.get w.table gd ≡ Some id
   still_named gd id e =
       insert_other v.table fd (next_file y) gd (open_apart gd (is_there_of (map.get v.table gd) id e)) ∙ e
 
 -- another file of one object in the place of an open one
-module _ (now : ℕ) (v : View) (id : ObjectId) (old new : File) (is : at id.number v.files.files ≡ Some old) where
+module _ (now : ℕ) (v : View) (id : FileId) (old new : File) (is : at id.number v.files.files ≡ Some old) where
   abbrev changed_files : List (Option File)
   changed_files = acts (λ _. Some new) id.number v.files.files
 

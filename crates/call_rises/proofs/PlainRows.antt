@@ -1,6 +1,7 @@
 -- rows that need no sockets
 use Rattle.std.proofs.Common.{◌≡◌, ⊎_elim, ℕ, ◌+◌, ◌==◌, true, false, not, List, length, Some, None, is_some, Result, Ok, nat_lt, refl, sym, ap, subst}
 use Rattle.std.specs.FinMap as map
+use Rattle.sim_base.specs.declared.alarm.AlarmTarget.TheVariants.{Timer}
 use Rattle.sim_base.specs.Refusals.{refuse_if, or_refuse}
 use Rattle.sim_base.specs.declared.errno.Errno.TheVariants.{Efault, Einval}
 use Rattle.sim_base.specs.declared.time.Time.{Time}
@@ -40,7 +41,7 @@ use Rattle.file_calls.specs.Guest.{getpid, brk, words, words_in, random_count, r
 use Rattle.file_calls.specs.Numbers.{f_getfd, f_setfd, f_getfl, f_setfl, grnd_nonblock, grnd_random}
 use Rattle.file_calls.specs.Scene.{Local, tell_memory}
 use Rattle.call_parts.specs.Sockets.{setsockopt_asked, setsockopt}
-use Rattle.file_calls.specs.Times.{timer_object, at_nanos, clock_gettime, timer_file, new_timer, create_asked, timerfd_create, sets, set_by, old_timer, tell_setting, settime_asked, timerfd_settime}
+use Rattle.file_calls.specs.Times.{at_nanos, clock_gettime, timer_file, new_timer, create_asked, timerfd_create, sets, set_by, old_timer, tell_setting, settime_asked, timerfd_settime}
 use Rattle.pipe_laws.specs.Acts.{Writes, Reads}
 use Rattle.pipe_laws.specs.Eventfds.{Adds, Takes}
 use Rattle.file_laws.specs.Lives.{makes, does}
@@ -223,7 +224,7 @@ module _ (now : ℕ) where
 module _ (now : Time) where
   sets_move : (k old first interval : ℕ) (shared : Shared) → FilesMove now.nanos shared.files (sets now k old first interval shared).files
   sets_move k old first interval shared =
-      let serial = (wants_alarm (timer_object k) (at_nanos first) shared.outlet).0 in
+      let serial = (wants_alarm (Timer k) (at_nanos first) shared.outlet).0 in
       by_test (λ (x : Shared). FilesMove now.nanos shared.files x.files) (first == 0) _ _
       (λ e. on_timer now.nanos (does k (Sets now.nanos 0 interval old)) shared.files _ (refl, tt) refl refl refl)
       (λ e. on_timer now.nanos (does k (Sets now.nanos first interval serial)) shared.files _ (refl, tt) refl refl refl)
@@ -233,7 +234,7 @@ module _ (now : Time) where
 
   sets_named : (k old first interval : ℕ) (task : Task) (shared : Shared) (after : Task) → task.table ≡ after.table → task.epolls ≡ after.epolls → (t : SocketsRecord) → Named now.nanos (view task shared t) (view after (sets now k old first interval shared) t)
   sets_named k old first interval task shared after table epolls t =
-      let serial = (wants_alarm (timer_object k) (at_nanos first) shared.outlet).0 in
+      let serial = (wants_alarm (Timer k) (at_nanos first) shared.outlet).0 in
       by_test (λ (x : Shared). Named now.nanos (view task shared t) (view after x t)) (first == 0) _ _
       (λ e.
       acted now.nanos task after shared (record shared { files = timer_set now.nanos 0 interval old k shared.files }) table refl epolls (grows_timer (after_set now.nanos 0 interval old) (λ x. refl) k shared.files) t)

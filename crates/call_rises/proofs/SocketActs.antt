@@ -3,7 +3,6 @@ use Rattle.std.proofs.Common.{◌≡◌, ℕ, ◌==◌, Bool, true, false, List,
 use Rattle.std.specs.List.{position}
 use Rattle.sim_base.specs.declared.address.Ip.{Ip}
 use Rattle.sim_base.specs.declared.address.Addr.{Addr}
-use Rattle.sim_base.specs.declared.object.ObjectId.{ObjectId}
 use Rattle.sim_base.specs.declared.packet.Load.{Load}
 use Rattle.sim_base.specs.declared.packet.Load.TheVariants.{Udp, Tcp}
 use Rattle.sim_base.specs.declared.packet.Packet.{Packet}
@@ -33,7 +32,7 @@ use Rattle.host_sockets.specs.Moving.{send_asked, count_taken, takes_written, se
 use Rattle.host_sockets.specs.Names.{error_asked, takes_error}
 use Rattle.host_sockets.specs.Closing.{unheld, closes_in, closed, closes_tcp}
 use Rattle.host_sockets.specs.Arriving.{takes_in, datagram_in, datagram_at, datagram_arrives, record_takes, hears_in, listener_hears, hearer, heard_at, segment_at, segment_arrives, arrives_by}
-use Rattle.host_sockets.specs.Alarms.{place_of, kept_timer, kept_expires, timer_expires, socket_expires, alarm_comes}
+use Rattle.host_sockets.specs.Alarms.{kept_timer, kept_expires, timer_expires, socket_expires, alarm_comes}
 use Rattle.socket_laws.specs.Histories.{SocketsAct, left_by, sockets_acted, make_udp, bind_udp, connect_udp, send_udp, recv_udp, close_udp, make_tcp, bind_tcp, listen_tcp, accept_tcp, connect_tcp, connect_again, send_tcp, recv_tcp, shut_tcp, take_error, close_tcp, arrival, alarm, elsewhere}
 use Rattle.socket_laws.proofs.LivePairs.{left_asked, left_after, left_told, taken_row, after_ok, change_ok}
 use Rattle.call_rises.specs.Sockets.{has_udp, is_held, has_tcp}
@@ -198,10 +197,10 @@ module _ (t : SocketsRecord) where
   arrival_goes (Udp bytes) now p w = datagram_goes p.from p.to bytes
   arrival_goes (Tcp flags seq ack window text) now p w = segment_goes now p w
 
-  alarm_goes : (now : Time) (object : ObjectId) (serial : ℕ) (w : Wanted) → P (alarm_comes now object serial t w).0
+  alarm_goes : (now : Time) (k serial : ℕ) (w : Wanted) → P (alarm_comes now k serial t w).0
   unfolding alarm_comes
-  alarm_goes now object serial w =
-      acts_go (place_of object) (socket_expires now (place_of object) serial) w (expires_held now (place_of object) serial)
+  alarm_goes now k serial w =
+      acts_go k (socket_expires now k serial) w (expires_held now k serial)
 
   pub stays_there : (hosts : List Ip) (now : Time) (act : SocketsAct) (w : Wanted) → Stays act → P (sockets_acted hosts now act t w).0
   unfolding binds_udp connects_udp sends_udp receives_udp binds_tcp listens_tcp sends_taking receives_taking shuts_tcp takes_error
@@ -231,7 +230,7 @@ module _ (t : SocketsRecord) where
       (errors_go now k w) (same_there t)
   stays_there hosts now (close_tcp k) w none = absurd none
   stays_there hosts now (arrival p) w none = arrival_goes p.load now p w
-  stays_there hosts now (alarm object serial) w none = alarm_goes now object serial w
+  stays_there hosts now (alarm k serial) w none = alarm_goes now k serial w
   stays_there hosts now (elsewhere after) w none = same_there t
 
   -- ---- one is closed

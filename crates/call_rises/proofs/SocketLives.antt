@@ -58,7 +58,7 @@ tcp_not_made k (shut_tcp j how) t h = refl
 tcp_not_made k (take_error j) t h = refl
 tcp_not_made k (close_tcp j) t h = refl
 tcp_not_made k (arrival p) t h = refl
-tcp_not_made k (alarm object serial) t h = refl
+tcp_not_made k (alarm n serial) t h = refl
 tcp_not_made k (elsewhere after) t h = refl
 
 udp_not_made : (k : ℕ) (act : SocketsAct) (t : SocketsRecord) → has_udp k t ≡ true → makes_udp k act t ≡ false
@@ -80,7 +80,7 @@ udp_not_made k (shut_tcp j how) t h = refl
 udp_not_made k (take_error j) t h = refl
 udp_not_made k (close_tcp j) t h = refl
 udp_not_made k (arrival p) t h = refl
-udp_not_made k (alarm object serial) t h = refl
+udp_not_made k (alarm n serial) t h = refl
 udp_not_made k (elsewhere after) t h = refl
 
 -- counts over acts, and then over more

@@ -1,10 +1,12 @@
 -- the table of system calls, and what else happens at a host
-use Rattle.std.proofs.Common.{◌≡◌, ◌⊎◌, ⊎_elim, ℕ, zero, suc, ◌*◌, true, List, Option, Some, None, is_some, Result, Ok, Err, nat_lt, slice_set, refl, sym, ap, subst, ◌∙◌}
+use Rattle.std.proofs.Common.{◌≡◌, ◌⊎◌, ⊎_elim, ℕ, zero, suc, ◌*◌, true, List, Option, Some, None, is_some, Result, Ok, Err, slice_set, refl, sym, ap, subst, ◌∙◌}
 use Rattle.std.specs.FinMap as map
 use Rattle.sim_base.specs.declared.address.Ip.{Ip}
-use Rattle.sim_base.specs.declared.object.ObjectId.{ObjectId}
+use Rattle.sim_base.specs.declared.alarm.AlarmTarget.{AlarmTarget}
+use Rattle.sim_base.specs.declared.alarm.AlarmTarget.TheVariants as alarm_of
 use Rattle.sim_base.specs.declared.packet.Packet.{Packet}
 use Rattle.sim_base.specs.declared.time.Time.{Time}
+use Rattle.host_fds.specs.declared.file_id.FileId.{FileId}
 use Rattle.host_fds.specs.declared.epoll.Seen.{Seen}
 use Rattle.host_fds.specs.declared.epoll.Watch.{Watch}
 use Rattle.host_fds.specs.Descriptors.{limit}
@@ -20,7 +22,6 @@ use Rattle.host_files.specs.declared.file.Object.TheVariants as kind
 use Rattle.host_wants.specs.declared.error.Refusal.{Refusal}
 use Rattle.host_wants.specs.declared.error.Refusal.TheVariants as refusal
 use Rattle.host_sockets.specs.Sockets.{SocketsRecord}
-use Rattle.host_sockets.specs.TcpActs.{first_object}
 use Rattle.host_wants.specs.Wanted.{wants_alarm}
 use Rattle.call_parts.specs.declared.call.Call.{Call}
 use Rattle.call_parts.specs.declared.call.Call.TheVariants as system_call
@@ -42,7 +43,7 @@ use Rattle.host_calls.specs.Calls.{arg, plain_row, reacts, network_row, asked, d
 use Rattle.host_calls.specs.Closing.{ends, without_epoll, closes, close, closed_by, closed_one, closed_below}
 use Rattle.file_calls.specs.Descriptors.{descriptor}
 use Rattle.host_calls.specs.Epoll.{seen_of, all_seen, told_of, epoll_waits}
-use Rattle.host_calls.specs.Events.{arrives, timer_number, rung, alarmed, ended_by, ended}
+use Rattle.host_calls.specs.Events.{arrives, alarmed, ended_by, ended}
 use Rattle.file_calls.specs.Files.{reads, writes}
 use Rattle.host_calls.specs.Parts.{PartsRecord, Place, place, place_in, place_of, with_place, Scene, local_of, with_local, plainly}
 use Rattle.call_parts.specs.Polling.{poll_entries, entry_size}
@@ -51,7 +52,7 @@ use Rattle.file_calls.specs.Scene.{Local}
 use Rattle.host_calls.specs.Ready.{seen}
 use Rattle.host_calls.specs.Sockets.{socket, bind, listen, getsockname, getpeername, getsockopt, shutdown, accepts, sends_by, receives}
 use Rattle.host_calls.specs.Starting.{starts, task_starts}
-use Rattle.file_calls.specs.Times.{first_timer, timer_object, at_nanos, rings_at, next_ring}
+use Rattle.file_calls.specs.Times.{at_nanos, rings_at, next_ring}
 use Rattle.socket_laws.specs.Histories.{SocketsAct as act}
 use Rattle.socket_laws.specs.Histories.{SocketsAct, sockets_acted}
 use Rattle.pipe_laws.specs.Acts.{LetsGo}
@@ -66,7 +67,7 @@ use Rattle.call_rises.proofs.Ending.{ended_is, sockets_ended, closed_named, clos
 use Rattle.call_rises.proofs.Epolls.{rise_reported, rise_ended, rise_forgotten, none_rise, seen_of_all, entry_reported}
 use Rattle.call_rises.proofs.Growing.{grows_timer}
 use Rattle.call_rises.proofs.Hosts.{placed_same, hold_after, one_after, marks_after, were_after, hold_rests, one_rests, marks_rest, hold_begun, one_begun, entry_begun, marks_begun}
-use Rattle.call_rises.proofs.Moving.{by_test, none, stays, on_pipe, on_eventfd, on_timer, both, Moved, moved_by, moved_none, moved_both, Leads, answers, refused, asks_so, asks}
+use Rattle.call_rises.proofs.Moving.{none, stays, on_pipe, on_eventfd, on_timer, both, Moved, moved_by, moved_none, moved_both, Leads, answers, refused, asks_so, asks}
 use Rattle.call_rises.proofs.PlainRows.{LocalMoved, plain_leads, reads_lead, writes_lead}
 use Rattle.call_rises.proofs.NetworkRows.{scene_view, SceneMoved, keeps, socket_leads, bind_leads, listen_leads, accept_leads, connect_leads, getsockname_leads, getpeername_leads, send_leads, recv_leads, getsockopt_leads, shutdown_leads}
 use Rattle.call_rises.proofs.There.{AllStay, all_stay, same_stay}
@@ -328,12 +329,12 @@ pub record Keeps (hosts : List Ip) (now : Time) (x y : PartsRecord) : Type 0 whe
   -- a process that has entries was there
   pub were : (q k : ℕ) (last : Task) (w : Watch) → at q y.tasks ≡ Some last → HasEntry k last.epolls w → (first : Task) × (at q x.tasks ≡ Some first)
   -- the descriptors of entries name what they named
-  pub entries_name : NamesHold x.tasks x.shared.files x.sockets → (q k : ℕ) (last : Task) (w : Watch) → at q y.tasks ≡ Some last → HasEntry k last.epolls w → (id jd : ObjectId) (f g : File) → names q w.fd x.tasks ≡ Some id → names q w.fd y.tasks ≡ Some jd → file_at id x.shared.files ≡ Some f → file_at jd y.shared.files ≡ Some g → NamesOne hosts now.nanos x y files sockets id jd f g
+  pub entries_name : NamesHold x.tasks x.shared.files x.sockets → (q k : ℕ) (last : Task) (w : Watch) → at q y.tasks ≡ Some last → HasEntry k last.epolls w → (id jd : FileId) (f g : File) → names q w.fd x.tasks ≡ Some id → names q w.fd y.tasks ≡ Some jd → file_at id x.shared.files ≡ Some f → file_at jd y.shared.files ≡ Some g → NamesOne hosts now.nanos x y files sockets id jd f g
 
 -- and all descriptors do
 abbrev pub NameOne : (hosts : List Ip) (now : Time) (x y : PartsRecord) → FilesMove now.nanos x.shared.files y.shared.files → SocketsMove hosts x.sockets y.sockets → Type 0
 NameOne hosts now x y files sockets =
-    (q fd : ℕ) (id jd : ObjectId) (f g : File) → names q fd x.tasks ≡ Some id → names q fd y.tasks ≡ Some jd → file_at id x.shared.files ≡ Some f → file_at jd y.shared.files ≡ Some g → NamesOne hosts now.nanos x y files sockets id jd f g
+    (q fd : ℕ) (id jd : FileId) (f g : File) → names q fd x.tasks ≡ Some id → names q fd y.tasks ≡ Some jd → file_at id x.shared.files ≡ Some f → file_at jd y.shared.files ≡ Some g → NamesOne hosts now.nanos x y files sockets id jd f g
 
 pub record KeepsNames (hosts : List Ip) (now : Time) (x y : PartsRecord) : Type 0 where
   pub keeps : Keeps hosts now x y
@@ -421,7 +422,7 @@ module _ (hosts : List Ip) (now : Time) where
             (λ apart. one_begun process memory h hosts now k.files k.sockets hold q fd id jd f g apart e last_is there_f there_g);
       }
     where
-      none_named : (fd : ℕ) (id : ObjectId) (o : Option Task) → o ≡ None → named_in fd o ≡ Some id → ⊥
+      none_named : (fd : ℕ) (id : FileId) (o : Option Task) → o ≡ None → named_in fd o ≡ Some id → ⊥
       none_named fd id None e h = cc
       none_named fd id (Some task) e h = cc
 
@@ -429,23 +430,17 @@ module _ (hosts : List Ip) (now : Time) where
   rings_move : (k : ℕ) (o : Option ℕ) (shared : Shared) → FilesMove now.nanos shared.files (rings_at k o shared).files
   rings_move k None shared = none now.nanos shared.files
   rings_move k (Some due) shared =
-      let serial = (wants_alarm (timer_object k) (at_nanos due) shared.outlet).0 in
+      let serial = (wants_alarm (alarm_of.Timer k) (at_nanos due) shared.outlet).0 in
       on_timer now.nanos (does k (Rings serial)) shared.files (rings_at k (Some due) shared).files (tt, tt) refl refl refl
 
   rings_grow : (k : ℕ) (o : Option ℕ) (shared : Shared) → Grows shared.files (rings_at k o shared).files
   rings_grow k None shared = grows_so shared.files shared.files refl refl refl
   rings_grow k (Some due) shared =
-      grows_timer (after_serial (wants_alarm (timer_object k) (at_nanos due) shared.outlet).0) (λ t. refl) k shared.files
+      grows_timer (after_serial (wants_alarm (alarm_of.Timer k) (at_nanos due) shared.outlet).0) (λ t. refl) k shared.files
 
   rings_same : (k : ℕ) (o : Option ℕ) (shared : Shared) → shared.files.files ≡ (rings_at k o shared).files.files
   rings_same k None shared = refl
   rings_same k (Some due) shared = refl
-
-  rung_keeps : (object : ObjectId) (serial : ℕ) (h : PartsRecord) → KeepsNames hosts now h (rung now object serial h)
-  rung_keeps object serial h =
-      let k = timer_number object in
-      let o = next_ring now serial (timer_at k h.shared.files) in
-      rest_there hosts now h (rung now object serial h) (rings_move k o h.shared) (sockets_rest hosts h.sockets) (λ rise. rise) (λ q. refl) (rings_same k o h.shared) (rings_grow k o h.shared) (all_stay h.sockets)
 
   -- the files rest, and an act that makes and closes none is done to the sockets
   files_rest : (x y : PartsRecord) (done : SocketsAct) → Stays done → (sockets_acted hosts now done x.sockets x.shared.outlet).0 ≡ y.sockets → x.shared.files ≡ y.shared.files → (TasksRise x → TasksRise y) → ((q : ℕ) → at q y.tasks ≡ at q x.tasks) → KeepsNames hosts now x y
@@ -461,16 +456,15 @@ module _ (hosts : List Ip) (now : Time) where
   all_rest h =
       rest_there hosts now h h (none now.nanos h.shared.files) (sockets_rest hosts h.sockets) (λ rise. rise) (λ q. refl) refl (grows_so h.shared.files h.shared.files refl refl refl) (all_stay h.sockets)
 
-  pub alarmed_keep_names : (object : ObjectId) (serial : ℕ) (h : PartsRecord) → KeepsNames hosts now h (alarmed now object serial h)
-  alarmed_keep_names object serial h =
-      by_test (KeepsNames hosts now h) (nat_lt object.number first_timer) _ _
-      (λ e. all_rest h)
-      (λ e. by_test (KeepsNames hosts now h) (nat_lt object.number first_object) _ _
-      (λ k. rung_keeps object serial h)
-      (λ k. files_rest h _ (act.alarm object serial) tt refl refl (λ rise. rise) (λ q. refl)))
+  pub alarmed_keep_names : (target : AlarmTarget) (serial : ℕ) (h : PartsRecord) → KeepsNames hosts now h (alarmed now target serial h)
+  alarmed_keep_names (alarm_of.Process p) serial h = all_rest h
+  alarmed_keep_names (alarm_of.Timer k) serial h =
+      let o = next_ring now serial (timer_at k h.shared.files) in
+      rest_there hosts now h (alarmed now (alarm_of.Timer k) serial h) (rings_move k o h.shared) (sockets_rest hosts h.sockets) (λ rise. rise) (λ q. refl) (rings_same k o h.shared) (rings_grow k o h.shared) (all_stay h.sockets)
+  alarmed_keep_names (alarm_of.Socket k) serial h = files_rest h _ (act.alarm k serial) tt refl refl (λ rise. rise) (λ q. refl)
 
-  pub alarmed_keeps : (object : ObjectId) (serial : ℕ) (h : PartsRecord) → Keeps hosts now h (alarmed now object serial h)
-  alarmed_keeps object serial h = (alarmed_keep_names object serial h).keeps
+  pub alarmed_keeps : (target : AlarmTarget) (serial : ℕ) (h : PartsRecord) → Keeps hosts now h (alarmed now target serial h)
+  alarmed_keeps target serial h = (alarmed_keep_names target serial h).keeps
 
   pub arrives_keep_names : (packet : Packet) (h : PartsRecord) → KeepsNames hosts now h (arrives now packet h).1
   arrives_keep_names packet h = files_rest h (arrives now packet h).1 (act.arrival packet) tt refl refl (λ rise. rise) (λ q. refl)

@@ -8,8 +8,8 @@ use Rattle.std.proofs.lemmas.Bool.Decides.{nat_tests}
 use Rattle.std.proofs.lemmas.Cmp.{nat_cmp_total}
 use Rattle.sim_base.specs.Refusals.{◌>>=◌, or_refuse}
 use Rattle.sim_base.specs.declared.errno.Errno.TheVariants.{Ebadf}
-use Rattle.sim_base.specs.declared.object.ObjectId.{ObjectId}
 use Rattle.sim_base.specs.declared.time.Time.{Time}
+use Rattle.host_fds.specs.declared.file_id.FileId.{FileId}
 use Rattle.host_fds.specs.declared.epoll.Seen.{Seen}
 use Rattle.host_fds.specs.declared.epoll.Watch.{Watch}
 use Rattle.host_fds.specs.declared.eventfd.Eventfd.{Eventfd}
@@ -51,17 +51,17 @@ seen_in now v fd = seen_by now fd (descriptor_by (map.get v.table fd) v.files) v
 pub record IsOthers (process : ℕ) (tasks : List (Option Task)) (n : ℕ) : Type 0 where
   pub other : ℕ
   pub fd : ℕ
-  pub id : ObjectId
+  pub id : FileId
   pub apart : process ≢ other
   pub names : named_in fd (at other tasks) ≡ Some id
   pub number : id.number ≡ n
 
 -- the names of a host hold, as one process sees them beside the others
 pub record Sound (process : ℕ) (tasks : List (Option Task)) (v : View) : Type 0 where
-  pub opened : (fd : ℕ) (id : ObjectId) → map.get v.table fd ≡ Some id → is_some (at id.number v.files.files) ≡ true
+  pub opened : (fd : ℕ) (id : FileId) → map.get v.table fd ≡ Some id → is_some (at id.number v.files.files) ≡ true
   pub others : (n : ℕ) → IsOthers process tasks n → is_some (at n v.files.files) ≡ true
-  pub apart : (fd gd : ℕ) (id jd : ObjectId) → map.get v.table fd ≡ Some id → map.get v.table gd ≡ Some jd → id.number ≡ jd.number → fd ≡ gd
-  pub apart_others : (fd : ℕ) (id : ObjectId) → map.get v.table fd ≡ Some id → IsOthers process tasks id.number → ⊥
+  pub apart : (fd gd : ℕ) (id jd : FileId) → map.get v.table fd ≡ Some id → map.get v.table gd ≡ Some jd → id.number ≡ jd.number → fd ≡ gd
+  pub apart_others : (fd : ℕ) (id : FileId) → map.get v.table fd ≡ Some id → IsOthers process tasks id.number → ⊥
   pub there : (n : ℕ) (file : File) → at n v.files.files ≡ Some file → is_there file.object v.files v.sockets ≡ true
   pub single : (n m : ℕ) (f g : File) → at n v.files.files ≡ Some f → at m v.files.files ≡ Some g → f.object ≡ g.object → is_single f.object ≡ true → n ≡ m
   pub watched : (k : ℕ) (w : Watch) → HasEntry k v.epolls w → is_some (map.get v.table w.fd) ≡ true
@@ -79,13 +79,13 @@ pub data Came (now : ℕ) (v : View) (k : ℕ) (w : Watch) : Type 0 where
 -- what an act leaves of the names
 pub record Named (now : ℕ) (v w : View) : Type 0 where
   pub sound : (process : ℕ) (tasks : List (Option Task)) → Sound process tasks v → Sound process tasks w
-  pub own : (process : ℕ) (tasks : List (Option Task)) → Sound process tasks v → (fd : ℕ) (id jd : ObjectId) → map.get v.table fd ≡ Some id → map.get w.table fd ≡ Some jd → (id ≡ jd) × SameObject v w id.number
+  pub own : (process : ℕ) (tasks : List (Option Task)) → Sound process tasks v → (fd : ℕ) (id jd : FileId) → map.get v.table fd ≡ Some id → map.get w.table fd ≡ Some jd → (id ≡ jd) × SameObject v w id.number
   pub others : (process : ℕ) (tasks : List (Option Task)) → Sound process tasks v → (n : ℕ) → IsOthers process tasks n → SameObject v w n
   pub entries : (k : ℕ) (x : Watch) → HasEntry k w.epolls x → Came now v k x
 
 -- an act that opens and makes nothing, and tells of nothing
 pub record Fewer (v w : View) : Type 0 where
-  pub table : (fd : ℕ) (id : ObjectId) → map.get w.table fd ≡ Some id → map.get v.table fd ≡ Some id
+  pub table : (fd : ℕ) (id : FileId) → map.get w.table fd ≡ Some id → map.get v.table fd ≡ Some id
   pub pipes : (k : ℕ) → is_some (at k w.files.pipes) ≡ true → is_some (at k v.files.pipes) ≡ true
   pub eventfds : (k : ℕ) → is_some (at k w.files.eventfds) ≡ true → is_some (at k v.files.eventfds) ≡ true
   pub timers : (k : ℕ) → is_some (at k w.files.timers) ≡ true → is_some (at k v.files.timers) ≡ true
@@ -148,11 +148,11 @@ untied : (q k : ℕ) → q ≢ k → eq_by_cmp nat_cmp q k ≡ false
 untied q k differ = unsigned_tied q k ∙ ne_eqb q k differ
 
 module _ (table : Descriptors) (fd : ℕ) where
-  pub insert_here : (id : ObjectId) → map.get (map.insert table fd id) fd ≡ Some id
+  pub insert_here : (id : FileId) → map.get (map.insert table fd id) fd ≡ Some id
   insert_here id =
       map.get-insert nat_cmp_total table fd id fd ∙ ap (λ (b : Bool). cond b (Some id) (map.get table fd)) (tied fd fd refl)
 
-  pub insert_other : (id : ObjectId) (gd : ℕ) → gd ≢ fd → map.get (map.insert table fd id) gd ≡ map.get table gd
+  pub insert_other : (id : FileId) (gd : ℕ) → gd ≢ fd → map.get (map.insert table fd id) gd ≡ map.get table gd
   insert_other id gd apart =
       map.get-insert nat_cmp_total table fd id gd ∙ ap (λ (b : Bool). cond b (Some id) (map.get table gd)) (untied gd fd apart)
 
@@ -165,7 +165,7 @@ module _ (table : Descriptors) (fd : ℕ) where
       map.get-remove nat_cmp_total table fd gd ∙ ap (λ (b : Bool). cond b None (map.get table gd)) (untied gd fd apart)
 
   -- what is there without it was there before, and is another one
-  pub removed : (gd : ℕ) (id : ObjectId) → map.get (map.remove table fd) gd ≡ Some id → (gd ≢ fd) × (map.get table gd ≡ Some id)
+  pub removed : (gd : ℕ) (id : FileId) → map.get (map.remove table fd) gd ≡ Some id → (gd ≢ fd) × (map.get table gd ≡ Some id)
   removed gd id e =
       by_number gd fd ((gd ≢ fd) × (map.get table gd ≡ Some id))
       (λ same.
@@ -174,12 +174,12 @@ module _ (table : Descriptors) (fd : ℕ) where
       absurd (none_some id no))
       (λ apart. (apart, sym (remove_other gd apart) ∙ e))
     where
-      none_some : (id : ObjectId) → None ≡ Some id → ⊥
+      none_some : (id : FileId) → None ≡ Some id → ⊥
       none_some id e = cc
 
 -- names that stay
 module _ (now : ℕ) (v w : View) (table : v.table ≡ w.table) (files : v.files.files ≡ w.files.files) where
-  was : (fd : ℕ) (id : ObjectId) → map.get w.table fd ≡ Some id → map.get v.table fd ≡ Some id
+  was : (fd : ℕ) (id : FileId) → map.get w.table fd ≡ Some id → map.get v.table fd ≡ Some id
   was fd id e = ap (λ (t : Descriptors). map.get t fd) table ∙ e
 
   file_was : (n : ℕ) (f : File) → at n w.files.files ≡ Some f → at n v.files.files ≡ Some f
@@ -230,11 +230,11 @@ named_both now v u w a b fewer = record {
   own = λ process tasks h fd id jd e k.
       let before = a.own process tasks h fd id jd e (fewer.table fd jd k) in
       let mid = a.sound process tasks h in
-      let found = some_of (at id.number u.files.files) (mid.opened fd id (subst (λ (x : ObjectId). map.get u.table fd ≡ Some x) (sym before.0) (fewer.table fd jd k))) in (
+      let found = some_of (at id.number u.files.files) (mid.opened fd id (subst (λ (x : FileId). map.get u.table fd ≡ Some x) (sym before.0) (fewer.table fd jd k))) in (
         before.0,
         λ f g p q.
             before.1 f found.0 p found.1
-            ∙ (b.own process tasks mid fd id jd (subst (λ (x : ObjectId). map.get u.table fd ≡ Some x) (sym before.0) (fewer.table fd jd k)) k).1 found.0 g found.1 q,
+            ∙ (b.own process tasks mid fd id jd (subst (λ (x : FileId). map.get u.table fd ≡ Some x) (sym before.0) (fewer.table fd jd k)) k).1 found.0 g found.1 q,
       );
   others = λ process tasks h n o f g p q.
       let mid = a.sound process tasks h in
@@ -254,7 +254,7 @@ fewer_both v u w a b = record {
 }
 
 -- what a descriptor names
-pub descriptor_named : (o : Option ObjectId) (files : FilesState) (d : Descriptor) → descriptor_by o files ≡ Ok d → (o ≡ Some d.id) × (at d.id.number files.files ≡ Some d.file)
+pub descriptor_named : (o : Option FileId) (files : FilesState) (d : Descriptor) → descriptor_by o files ≡ Ok d → (o ≡ Some d.id) × (at d.id.number files.files ≡ Some d.file)
 descriptor_named None files d e = let no : ⊥ = cc in absurd no
 descriptor_named (Some id) files d e = by_file (at id.number files.files) refl e
   where

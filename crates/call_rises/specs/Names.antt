@@ -3,8 +3,8 @@
 use Rattle.std.specs.Prelude.{◌≡◌, ◌⊎◌, ℕ, Bool, true, false, List, [], ◌∷◌, Option, Some, None, is_some}
 use Rattle.std.specs.FinMap as map
 use Rattle.sim_base.specs.declared.address.Ip.{Ip}
-use Rattle.sim_base.specs.declared.object.ObjectId.{ObjectId}
 use Rattle.sim_base.specs.declared.time.Time.{Time}
+use Rattle.host_fds.specs.declared.file_id.FileId.{FileId}
 use Rattle.host_fds.specs.declared.epoll.Watch.{Watch}
 use Rattle.host_fds.specs.declared.pipe.End.{End}
 use Rattle.host_fds.specs.declared.pipe.End.TheVariants.{Reading, Writing}
@@ -32,11 +32,11 @@ use Rattle.call_rises.specs.Moves.{FilesMove}
 use Rattle.call_rises.specs.Sockets.{has_udp, has_tcp, SocketLasts, SocketsMove}
 
 -- the open file that a descriptor of a process names
-abbrev pub named_in : ℕ → Option Task → Option ObjectId
+abbrev pub named_in : ℕ → Option Task → Option FileId
 named_in fd None = None
 named_in fd (Some task) = map.get task.table fd
 
-abbrev pub names : ℕ → ℕ → List (Option Task) → Option ObjectId
+abbrev pub names : ℕ → ℕ → List (Option Task) → Option FileId
 names process fd tasks = named_in fd (at process tasks)
 
 -- an end of a pipe, a timer, an eventfd or a socket is there, or not
@@ -80,10 +80,10 @@ HasEntry k epolls w = (entries : List Watch) × ((at k epolls ≡ Some entries) 
 -- each descriptor names an open file, and no two name one; the object of each is there, and no other one's; and each entry of an epoll
 -- is of a descriptor that is open
 pub record NamesHold (tasks : List (Option Task)) (files : FilesState) (sockets : SocketsRecord) : Type 0 where
-  pub opened : (process fd : ℕ) (id : ObjectId) → names process fd tasks ≡ Some id → is_some (file_at id files) ≡ true
-  pub apart : (process fd other gd : ℕ) (id : ObjectId) → names process fd tasks ≡ Some id → names other gd tasks ≡ Some id → (process ≡ other) × (fd ≡ gd)
-  pub there : (id : ObjectId) (file : File) → file_at id files ≡ Some file → is_there file.object files sockets ≡ true
-  pub single : (id other : ObjectId) (f g : File) → file_at id files ≡ Some f → file_at other files ≡ Some g → f.object ≡ g.object → is_single f.object ≡ true → id ≡ other
+  pub opened : (process fd : ℕ) (id : FileId) → names process fd tasks ≡ Some id → is_some (file_at id files) ≡ true
+  pub apart : (process fd other gd : ℕ) (id : FileId) → names process fd tasks ≡ Some id → names other gd tasks ≡ Some id → (process ≡ other) × (fd ≡ gd)
+  pub there : (id : FileId) (file : File) → file_at id files ≡ Some file → is_there file.object files sockets ≡ true
+  pub single : (id other : FileId) (f g : File) → file_at id files ≡ Some f → file_at other files ≡ Some g → f.object ≡ g.object → is_single f.object ≡ true → id ≡ other
   pub watched : (process k : ℕ) (task : Task) (w : Watch) → at process tasks ≡ Some task → HasEntry k task.epolls w → is_some (map.get task.table w.fd) ≡ true
 
 -- the object of an open file is there after each of some acts on pipes, eventfds, timers and sockets
@@ -97,7 +97,7 @@ ObjectLasts hosts (kind.Tcp k) on_pipes on_eventfds on_timers on_sockets files s
 ObjectLasts hosts _ on_pipes on_eventfds on_timers on_sockets files sockets w = Unit {0}
 
 -- a descriptor that is open before and after names one open file, of one object, which was there all along, whatever was wanted
-pub record NamesOne (hosts : List Ip) (now : ℕ) (x y : PartsRecord) (files : FilesMove now x.shared.files y.shared.files) (sockets : SocketsMove hosts x.sockets y.sockets) (id jd : ObjectId) (f g : File) : Type 0 where
+pub record NamesOne (hosts : List Ip) (now : ℕ) (x y : PartsRecord) (files : FilesMove now x.shared.files y.shared.files) (sockets : SocketsMove hosts x.sockets y.sockets) (id jd : FileId) (f g : File) : Type 0 where
   pub same_file : id ≡ jd
   pub same_object : object_alone f.object ≡ object_alone g.object
   pub lasts : (w : Wanted) → ObjectLasts hosts f.object files.on_pipes files.on_eventfds files.on_timers sockets.acts x.shared.files x.sockets w
@@ -107,7 +107,7 @@ pub record NamesMove (hosts : List Ip) (now : ℕ) (x y : PartsRecord) : Type 0 
   pub files : FilesMove now x.shared.files y.shared.files
   pub sockets : SocketsMove hosts x.sockets y.sockets
   pub hold : NamesHold y.tasks y.shared.files y.sockets
-  pub one : (process fd : ℕ) (id jd : ObjectId) (f g : File) → names process fd x.tasks ≡ Some id → names process fd y.tasks ≡ Some jd → file_at id x.shared.files ≡ Some f → file_at jd y.shared.files ≡ Some g → NamesOne hosts now x y files sockets id jd f g
+  pub one : (process fd : ℕ) (id jd : FileId) (f g : File) → names process fd x.tasks ≡ Some id → names process fd y.tasks ≡ Some jd → file_at id x.shared.files ≡ Some f → file_at jd y.shared.files ≡ Some g → NamesOne hosts now x y files sockets id jd f g
 
 -- where an entry comes from: it was there as it is, it was there and was told, with the rises that were seen of its descriptor then, or
 -- it was never told

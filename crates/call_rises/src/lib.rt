@@ -4,7 +4,7 @@
 
 ghost use Rattle.std.specs.Prelude.{◌≡◌, ◌++◌, ℕ, true, List, None};
 ghost use Rattle.sim_base.specs.declared.address.Ip.{Ip};
-ghost use Rattle.sim_base.specs.declared.object.ObjectId.{ObjectId};
+ghost use Rattle.sim_base.specs.declared.alarm.AlarmTarget.{AlarmTarget};
 ghost use Rattle.sim_base.specs.declared.packet.Packet.{Packet};
 ghost use Rattle.sim_base.specs.declared.time.Time.{Time};
 ghost use Rattle.guest_mem.specs.Memory.{Memory};
@@ -29,8 +29,8 @@ pub fn calls_move_files()
         → FilesMove now.nanos h.shared.files (task_starts process memory h).shared.files }
     ensures end { (now : Time) (process : ℕ) (h : PartsRecord)
         → FilesMove now.nanos h.shared.files (ended now process h).shared.files }
-    ensures alarm { (now : Time) (object : ObjectId) (serial : ℕ) (h : PartsRecord)
-        → FilesMove now.nanos h.shared.files (alarmed now object serial h).shared.files }
+    ensures alarm { (now : Time) (target : AlarmTarget) (serial : ℕ) (h : PartsRecord)
+        → FilesMove now.nanos h.shared.files (alarmed now target serial h).shared.files }
     ensures arrival { (now : Time) (packet : Packet) (h : PartsRecord)
         → (arrives now packet h).1.shared.files ≡ h.shared.files }
 {}
@@ -44,8 +44,8 @@ pub fn entries_stay_in_order()
         → TasksRise h → TasksRise (task_starts process memory h) }
     ensures end { (now : Time) (process : ℕ) (h : PartsRecord)
         → TasksRise h → TasksRise (ended now process h) }
-    ensures alarm { (now : Time) (object : ObjectId) (serial : ℕ) (h : PartsRecord)
-        → TasksRise h → TasksRise (alarmed now object serial h) }
+    ensures alarm { (now : Time) (target : AlarmTarget) (serial : ℕ) (h : PartsRecord)
+        → TasksRise h → TasksRise (alarmed now target serial h) }
     ensures arrival { (now : Time) (packet : Packet) (h : PartsRecord)
         → TasksRise h → TasksRise (arrives now packet h).1 }
 {}
@@ -62,8 +62,8 @@ pub fn descriptors_name_one_object()
         → NamesHold h.tasks h.shared.files h.sockets → NamesMove hosts now.nanos h (task_starts process memory h) }
     ensures end { (hosts : List Ip) (now : Time) (process : ℕ) (h : PartsRecord)
         → NamesHold h.tasks h.shared.files h.sockets → NamesMove hosts now.nanos h (ended now process h) }
-    ensures alarm { (hosts : List Ip) (now : Time) (object : ObjectId) (serial : ℕ) (h : PartsRecord)
-        → NamesHold h.tasks h.shared.files h.sockets → NamesMove hosts now.nanos h (alarmed now object serial h) }
+    ensures alarm { (hosts : List Ip) (now : Time) (target : AlarmTarget) (serial : ℕ) (h : PartsRecord)
+        → NamesHold h.tasks h.shared.files h.sockets → NamesMove hosts now.nanos h (alarmed now target serial h) }
     ensures arrival { (hosts : List Ip) (now : Time) (packet : Packet) (h : PartsRecord)
         → NamesHold h.tasks h.shared.files h.sockets → NamesMove hosts now.nanos h (arrives now packet h).1 }
 {}
@@ -91,8 +91,8 @@ pub fn marks_are_of_reports()
         → MarksMove now h (task_starts process memory h) }
     ensures end { (now : Time) (process : ℕ) (h : PartsRecord)
         → MarksMove now h (ended now process h) }
-    ensures alarm { (now : Time) (object : ObjectId) (serial : ℕ) (h : PartsRecord)
-        → MarksMove now h (alarmed now object serial h) }
+    ensures alarm { (now : Time) (target : AlarmTarget) (serial : ℕ) (h : PartsRecord)
+        → MarksMove now h (alarmed now target serial h) }
     ensures arrival { (now : Time) (packet : Packet) (h : PartsRecord)
         → MarksMove now h (arrives now packet h).1 }
 {}

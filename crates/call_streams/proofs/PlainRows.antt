@@ -1,5 +1,6 @@
 -- rows that need no sockets: they want no packets
 use Rattle.std.proofs.Common.{◌≡◌, ℕ, zero, suc, ◌+◌, ◌==◌, not, List, Result, Ok, Err, nat_lt, refl, ap, subst}
+use Rattle.sim_base.specs.declared.alarm.AlarmTarget.TheVariants.{Timer}
 use Rattle.sim_base.specs.Refusals.{◌>>=◌, ◌>>◌, refuse_if, or_refuse}
 use Rattle.sim_base.specs.declared.errno.Errno.TheVariants.{Efault, Einval}
 use Rattle.sim_base.specs.declared.time.Time.{Time}
@@ -31,7 +32,7 @@ use Rattle.file_calls.specs.EpollControl.{epoll_asked, epoll_file, new_epoll, ep
 use Rattle.file_calls.specs.Eventfd.{eventfd_asked, eventfd_file, new_eventfd, eventfd2}
 use Rattle.file_calls.specs.Guest.{getpid, brk, words, words_in, random_count, random_told, getrandom}
 use Rattle.call_parts.specs.Sockets.{setsockopt_asked, setsockopt}
-use Rattle.file_calls.specs.Times.{timer_object, at_nanos, clock_gettime, timer_file, new_timer, create_asked, timerfd_create, sets, set_by, old_timer, tell_setting, settime_asked, timerfd_settime}
+use Rattle.file_calls.specs.Times.{at_nanos, clock_gettime, timer_file, new_timer, create_asked, timerfd_create, sets, set_by, old_timer, tell_setting, settime_asked, timerfd_settime}
 use Rattle.host_calls.specs.Calls.{arg, plain_row}
 use Rattle.socket_laws.specs.Histories.{left_by}
 use Rattle.socket_streams.specs.Records.{packets_of}
@@ -81,7 +82,7 @@ sets_packets : (now : Time) (k old first interval : ℕ) (shared : Shared) → p
 sets_packets now k old first interval shared =
     by_test (λ (x : Shared). packets_of x.outlet ≡ packets_of shared.outlet) (first == 0) _ _
     (λ e. refl)
-    (λ e. alarm_packets (timer_object k) (at_nanos first) shared.outlet)
+    (λ e. alarm_packets (Timer k) (at_nanos first) shared.outlet)
 
 set_by_packets : (now : Time) (flags : ℕ) (old : OldTimer) (setting : Setting) (shared : Shared) → packets_of (set_by now flags old setting shared).outlet ≡ packets_of shared.outlet
 set_by_packets now flags old setting shared = sets_packets now old.place old.serial _ _ shared

@@ -1,19 +1,18 @@
 -- the whole table, ends of processes, arrivals and alarms
-use Rattle.std.proofs.Common.{◌≡◌, ℕ, zero, suc, ◌*◌, nat_lt, List, [], ◌∷◌, ◌++◌, Contains, Option, Some, None, Result, Ok, Err, refl}
+use Rattle.std.proofs.Common.{◌≡◌, ℕ, zero, suc, ◌*◌, List, [], ◌∷◌, ◌++◌, Contains, Option, Some, None, Result, Ok, Err, refl}
 use Rattle.sim_base.specs.declared.address.Ip.{Ip}
-use Rattle.sim_base.specs.declared.object.ObjectId.{ObjectId}
+use Rattle.sim_base.specs.declared.alarm.AlarmTarget.{AlarmTarget}
+use Rattle.sim_base.specs.declared.alarm.AlarmTarget.TheVariants as alarm_of
 use Rattle.sim_base.specs.declared.packet.Packet.{Packet}
 use Rattle.sim_base.specs.declared.time.Time.{Time}
 use Rattle.guest_mem.specs.Memory.{Memory}
 use Rattle.host_fds.specs.Descriptors.{limit}
 use Rattle.host_files.specs.declared.file.Object.{Object}
 use Rattle.host_files.specs.declared.file.Object.TheVariants as kind
-use Rattle.tcp_laws.proofs.Tests.{by_test}
 use Rattle.host_wants.specs.declared.error.Refusal.{Refusal}
 use Rattle.host_wants.specs.declared.error.Refusal.TheVariants as refusal
 use Rattle.host_wants.specs.Wanted.{Wanted}
 use Rattle.host_sockets.specs.Sockets.{SocketsRecord}
-use Rattle.host_sockets.specs.TcpActs.{first_object}
 use Rattle.call_parts.specs.declared.call.Call.{Call}
 use Rattle.call_parts.specs.declared.call.Call.TheVariants as system_call
 use Rattle.call_parts.specs.declared.call.NetworkCall.{NetworkCall}
@@ -31,18 +30,18 @@ use Rattle.file_calls.specs.declared.task.Why.{Why}
 use Rattle.call_parts.specs.Call.{call_of}
 use Rattle.host_calls.specs.Closing.{ends, closes, close, closed_by, closed_one, closed_below}
 use Rattle.file_calls.specs.Descriptors.{descriptor}
-use Rattle.host_calls.specs.Events.{arrives, timer_number, rung, alarmed, ended_by, ended}
+use Rattle.host_calls.specs.Events.{arrives, alarmed, ended_by, ended}
 use Rattle.host_calls.specs.Parts.{PartsRecord, Place, place_in, Scene, local_of, plainly}
 use Rattle.file_calls.specs.Files.{reads, writes}
 use Rattle.host_calls.specs.Sockets.{socket, bind, listen, accepts, getsockname, getpeername, sends_by, receives, getsockopt, shutdown}
 use Rattle.host_calls.specs.Starting.{task_starts}
-use Rattle.file_calls.specs.Times.{first_timer, timer_object, at_nanos, rings_at, next_ring}
+use Rattle.file_calls.specs.Times.{at_nanos, rings_at, next_ring}
 use Rattle.call_parts.specs.declared.epoll.WaitPlan.{WaitPlan}
 use Rattle.host_files.specs.Epolls.{epoll_at}
 use Rattle.host_calls.specs.Epoll.{all_seen, told_of, epoll_waits}
 use Rattle.call_parts.specs.Polling.{entry_size, poll_entries}
 use Rattle.host_calls.specs.Polling.{polled, polls}
-use Rattle.host_calls.specs.Calls.{arg, plain_row, network_row, asked, done, row, row_of, deadline_object, with_alarm, blocks_by, blocked, all_ended, cleared, answered, scene_at, call_by, call}
+use Rattle.host_calls.specs.Calls.{arg, plain_row, network_row, asked, done, row, row_of, with_alarm, blocks_by, blocked, all_ended, cleared, answered, scene_at, call_by, call}
 use Rattle.host_files.specs.Files.{timer_at}
 use Rattle.socket_laws.specs.Histories.{SocketsAct as act}
 use Rattle.socket_streams.specs.Records.{packets_of}
@@ -99,7 +98,7 @@ module _ (hosts : List Ip) (flying : List Packet) where
   -- a call that waits wants an alarm
   alarm_quiet : (process : ℕ) (deadline : Option Time) (shared : Shared) → packets_of (with_alarm process deadline shared).outlet ≡ packets_of shared.outlet
   alarm_quiet process None shared = refl
-  alarm_quiet process (Some deadline) shared = alarm_packets (deadline_object process) deadline shared.outlet
+  alarm_quiet process (Some deadline) shared = alarm_packets (alarm_of.Process process) deadline shared.outlet
 
   blocks_quiet : (process : ℕ) (why : Why) (kept : Option Why) (task : Task) (shared : Shared) → packets_of (blocks_by process why kept (task, shared)).1.1.outlet ≡ packets_of shared.outlet
   blocks_quiet process why None task shared = alarm_quiet process why.deadline shared
@@ -152,21 +151,14 @@ module _ (hosts : List Ip) (flying : List Packet) where
   -- an alarm
   rings_quiet : (k : ℕ) (o : Option ℕ) (shared : Shared) → packets_of (rings_at k o shared).outlet ≡ packets_of shared.outlet
   rings_quiet k None shared = refl
-  rings_quiet k (Some due) shared = alarm_packets (timer_object k) (at_nanos due) shared.outlet
+  rings_quiet k (Some due) shared = alarm_packets (alarm_of.Timer k) (at_nanos due) shared.outlet
 
-  rung_moves : (now : Time) (object : ObjectId) (serial : ℕ) (h : PartsRecord) → M (sockets_in h) (sockets_in (rung now object serial h))
-  rung_moves now object serial h =
-      let k = timer_number object in
+  pub alarmed_moves : (now : Time) (target : AlarmTarget) (serial : ℕ) (h : PartsRecord) → M (sockets_in h) (sockets_in (alarmed now target serial h))
+  alarmed_moves now (alarm_of.Process p) serial h = moves_none hosts flying (sockets_in h)
+  alarmed_moves now (alarm_of.Timer k) serial h =
       let o = next_ring now serial (timer_at k h.shared.files) in
       moves_quietly hosts flying h.sockets h.shared.outlet (rings_at k o h.shared).outlet (rings_quiet k o h.shared)
-
-  pub alarmed_moves : (now : Time) (object : ObjectId) (serial : ℕ) (h : PartsRecord) → M (sockets_in h) (sockets_in (alarmed now object serial h))
-  alarmed_moves now object serial h =
-      by_test (λ (x : PartsRecord). M (sockets_in h) (sockets_in x)) (nat_lt object.number first_timer) _ _
-      (λ e. moves_none hosts flying (sockets_in h))
-      (λ e. by_test (λ (x : PartsRecord). M (sockets_in h) (sockets_in x)) (nat_lt object.number first_object) _ _
-      (λ k. rung_moves now object serial h)
-      (λ k. moves_by hosts flying now (act.alarm object serial) h.sockets h.shared.outlet tt tt))
+  alarmed_moves now (alarm_of.Socket k) serial h = moves_by hosts flying now (act.alarm k serial) h.sockets h.shared.outlet tt tt
 
 module _ (known : Known) (flying : List Packet) where
   abbrev R : {A : Type 0} → Scene → Result (A × Scene) Refusal → Type 0

@@ -3,7 +3,7 @@
 
 ghost use Rattle.std.specs.Prelude.{ℕ, List, ◌++◌, Contains};
 ghost use Rattle.sim_base.specs.declared.address.Ip.{Ip};
-ghost use Rattle.sim_base.specs.declared.object.ObjectId.{ObjectId};
+ghost use Rattle.sim_base.specs.declared.alarm.AlarmTarget.{AlarmTarget};
 ghost use Rattle.sim_base.specs.declared.packet.Packet.{Packet};
 ghost use Rattle.sim_base.specs.declared.time.Time.{Time};
 ghost use Rattle.guest_mem.specs.Memory.{Memory};
@@ -31,6 +31,6 @@ pub fn calls_move()
     ensures comes { (hosts : List Ip) (now : Time) (packet : Packet) (flying : List Packet) (h : PartsRecord)
         → Contains flying packet
         → Moves hosts flying (sockets_in h) (sockets_in (arrives now packet h).1) }
-    ensures alarm { (hosts : List Ip) (now : Time) (object : ObjectId) (serial : ℕ) (flying : List Packet) (h : PartsRecord)
-        → Moves hosts flying (sockets_in h) (sockets_in (alarmed now object serial h)) }
+    ensures alarm { (hosts : List Ip) (now : Time) (target : AlarmTarget) (serial : ℕ) (flying : List Packet) (h : PartsRecord)
+        → Moves hosts flying (sockets_in h) (sockets_in (alarmed now target serial h)) }
 {}

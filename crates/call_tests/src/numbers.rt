@@ -2,9 +2,9 @@
 
 ghost use Rattle.std.specs.Prelude.{◌≡◌};
 
-use host_fds::End;
+use host_fds::{End, FileId};
 use host_files::{File, Files, Object};
-use sim_base::{ObjectId, POLLERR, POLLHUP, POLLIN, POLLOUT, Time};
+use sim_base::{POLLERR, POLLHUP, POLLIN, POLLOUT, Time};
 use std::test::Fail;
 
 fn file(object: Object) -> File {
@@ -14,8 +14,8 @@ fn file(object: Object) -> File {
     }
 }
 
-fn id(number: u64) -> ObjectId {
-    ObjectId { number }
+fn id(number: u64) -> FileId {
+    FileId { number }
 }
 
 fn at(nanos: u64) -> Time

@@ -154,5 +154,5 @@ module _ (now : Time) where
     unfolding does_all does_want
     wants_keep own [] w k = k
     wants_keep own (wanted.Send p ∷ ws) w k = wants_keep own ws (sends net own p w) (sends_keep own p w k)
-    wants_keep own (wanted.Alarm object serial due ∷ ws) w k =
-        wants_keep own ws (makes due (what.Alarm object serial) w.0, w.1) (makes_keep w.0 due (what.Alarm object serial) tt k)
+    wants_keep own (wanted.Alarm target serial due ∷ ws) w k =
+        wants_keep own ws (makes due (what.Alarm target serial) w.0, w.1) (makes_keep w.0 due (what.Alarm target serial) tt k)

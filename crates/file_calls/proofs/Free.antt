@@ -3,7 +3,7 @@ use Rattle.std.proofs.Common.{◌≡◌, ℕ, suc, ◌+◌, ◌-◌, ◌<◌, �
 use Rattle.std.proofs.lemmas.Bool.Decides.{nat_tests}
 use Rattle.std.specs.FinMap as map
 use Rattle.std.specs.Ordering.{nat_cmp}
-use Rattle.sim_base.specs.declared.object.ObjectId.{ObjectId}
+use Rattle.host_fds.specs.declared.file_id.FileId.{FileId}
 use Rattle.host_fds.specs.Descriptors.{Descriptors, limit}
 use Rattle.file_calls.specs.Descriptors.{first_free, free_from}
 
@@ -28,9 +28,9 @@ free_from_over fds fd h = rw (over fd h) refl
 pub ruleset steps = (free_from_taken, free_from_free, free_from_over)
 
 -- another descriptor that is free stays so where one is given out
-pub still_free : (fds : Descriptors) (fd other : ℕ) (object : ObjectId) → fd < other → map.get fds other ≡ None → map.get (map.insert fds fd object) other ≡ None
+pub still_free : (fds : Descriptors) (fd other : ℕ) (object : FileId) → fd < other → map.get fds other ≡ None → map.get (map.insert fds fd object) other ≡ None
 still_free fds fd other object h e = grind (arith, map.gets, nat_tests)
 
 -- and each is before the first is given out
-pub all_free : (fd : ℕ) → map.get {X = ObjectId} {R = nat_cmp} map.empty fd ≡ None
+pub all_free : (fd : ℕ) → map.get {X = FileId} {R = nat_cmp} map.empty fd ≡ None
 all_free fd = map.get-empty nat_cmp fd

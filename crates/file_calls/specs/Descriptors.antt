@@ -1,9 +1,9 @@
 -- The descriptors of a process.
 use Rattle.std.specs.Prelude.{◌≡◌, ◌<◌, ℕ, zero, suc, ◌+◌, ◌-◌, Option, Some, None, is_none, Result, Ok, Err, if◌then◌else◌}
 use Rattle.std.specs.FinMap as map
-use Rattle.sim_base.specs.declared.object.ObjectId.{ObjectId}
 use Rattle.sim_base.specs.declared.errno.Errno.TheVariants.{Ebadf}
 use Rattle.sim_base.specs.Refusals.{◌>>=◌, or_refuse}
+use Rattle.host_fds.specs.declared.file_id.FileId.{FileId}
 use Rattle.host_fds.specs.Descriptors.{Descriptors, limit}
 use Rattle.host_files.specs.declared.file.File.{File}
 use Rattle.host_files.specs.Files.{FilesState, file_at, next_file, opened, replaced}
@@ -32,7 +32,7 @@ pub record IsFree (fd : ℕ) (fds : Descriptors) : Type 0 where
   pub is_free : map.get fds fd ≡ None
 
 -- what a descriptor names: an open file, with its number
-abbrev pub descriptor_by : Option ObjectId → FilesState → Result Descriptor Refusal
+abbrev pub descriptor_by : Option FileId → FilesState → Result Descriptor Refusal
 descriptor_by None files = Err (Errno Ebadf)
 descriptor_by (Some id) files = do
   file ← or_refuse (file_at id files) (Errno Ebadf)
@@ -47,5 +47,5 @@ opens fd file (task, shared) =
     (record task { table = map.insert task.table fd (next_file shared.files) }, record shared { files = opened file shared.files })
 
 -- another file in the place of an open one
-abbrev pub with_file : ObjectId → File → Shared → Shared
+abbrev pub with_file : FileId → File → Shared → Shared
 with_file id file shared = record shared { files = replaced id file shared.files }

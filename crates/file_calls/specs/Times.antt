@@ -1,6 +1,6 @@
 -- clock_gettime(2), clock_nanosleep(2), timerfd_create(2) and timerfd_settime(2).
-use Rattle.std.specs.Prelude.{ℕ, ◌+◌, ◌-◌, ◌^◌, ◌==◌, ◌&&◌, ◌||◌, Bool, not, max, List, ◌++◌, Option, Some, None, Result, Ok, Err, nat_lt, unwrap_or, if◌then◌else◌}
-use Rattle.sim_base.specs.declared.object.ObjectId.{ObjectId}
+use Rattle.std.specs.Prelude.{ℕ, ◌+◌, ◌-◌, ◌==◌, ◌&&◌, ◌||◌, Bool, not, max, List, ◌++◌, Option, Some, None, Result, Ok, Err, nat_lt, unwrap_or, if◌then◌else◌}
+use Rattle.sim_base.specs.declared.alarm.AlarmTarget.TheVariants.{Timer}
 use Rattle.sim_base.specs.declared.errno.Errno.TheVariants.{Ebadf, Efault, Einval, Emfile}
 use Rattle.sim_base.specs.declared.time.Time.{Time}
 use Rattle.sim_base.specs.Refusals.{◌>>=◌, ◌>>◌, refuse_if, or_refuse}
@@ -78,13 +78,6 @@ timerfd_create clock flags (task, shared) = do
   fd ← create_asked clock flags task
   Ok (fd, opens fd (timer_file (has o_nonblock flags) (next_timer shared.files)) (new_timer clock (task, shared)))
 
--- the object that is the timer with a number, of which alarms tell
-abbrev pub first_timer : ℕ
-first_timer = 2 ^ 32
-
-abbrev pub timer_object : ℕ → ObjectId
-timer_object k = record { number = first_timer + k }
-
 -- timerfd_settime(2): a first expiry of 0 turns the timer off; another one that has passed counts as the next nanosecond
 abbrev pub is_zero : Moment → Bool
 is_zero time = time.seconds == 0 && time.nanos == 0
@@ -101,7 +94,7 @@ abbrev pub sets : Time → ℕ → ℕ → ℕ → ℕ → Shared → Shared
 sets now k old first interval shared =
     if first == 0
     then record shared { files = timer_set now.nanos 0 interval old k shared.files }
-    else with_serial now k first interval (wants_alarm (timer_object k) (at_nanos first) shared.outlet) shared
+    else with_serial now k first interval (wants_alarm (Timer k) (at_nanos first) shared.outlet) shared
 
 -- the old interval, and the time to the next expiry
 abbrev pub time_left : Time → Option ℕ → ℕ
@@ -156,7 +149,7 @@ rung k (serial, wanted) shared = record shared { files = timer_serial serial k s
 -- the alarm of a timer: one at its next expiry follows. A stale serial does nothing
 abbrev pub rings_at : ℕ → Option ℕ → Shared → Shared
 rings_at k None shared = shared
-rings_at k (Some due) shared = rung k (wants_alarm (timer_object k) (at_nanos due) shared.outlet) shared
+rings_at k (Some due) shared = rung k (wants_alarm (Timer k) (at_nanos due) shared.outlet) shared
 
 abbrev pub next_ring : Time → ℕ → Option KeptTimer → Option ℕ
 next_ring now serial None = None

@@ -7,15 +7,15 @@ ghost use Rattle.file_calls.specs.Descriptors as spec;
 ghost use Rattle.file_calls.specs.Scene.{Is};
 
 use crate::task::{Shared, Task};
-use host_fds::Table;
+use host_fds::{FileId, Table};
 use host_files::{File, Files};
 use host_wants::Refusal;
-use sim_base::{Errno, NoMemory, ObjectId};
+use sim_base::{Errno, NoMemory};
 
 /// What a descriptor names: an open file, with its number.
 #[derive(Clone, Copy)]
 pub struct Descriptor {
-    pub id: ObjectId,
+    pub id: FileId,
     pub file: File,
 }
 

@@ -28,7 +28,6 @@ pub use known::Known;
 pub use outputs::Outputs;
 pub use task::{Output, Shared, Task, Why};
 pub use times::{
-    FIRST_TIMER, OldTimer, Setting, clock_gettime, kept_or, ring, sleep_asked, timerfd_create,
-    timerfd_settime,
+    OldTimer, Setting, clock_gettime, kept_or, ring, sleep_asked, timerfd_create, timerfd_settime,
 };
 pub use transfer::Transfer;

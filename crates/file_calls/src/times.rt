@@ -1,6 +1,6 @@
 //! clock_gettime, clock_nanosleep, timerfd_create and timerfd_settime.
 
-ghost use Rattle.std.specs.Prelude.{◌≡◌, ◌<◌, ◌≤◌, ◌^◌, None, IsSome, IfOk, OnOk, option_map};
+ghost use Rattle.std.specs.Prelude.{◌≡◌, ◌<◌, ◌≤◌, None, IfOk, OnOk, option_map};
 ghost use Rattle.std.specs.FinMap as map;
 ghost use Rattle.sim_base.specs.Units.{latest_time, longest_wait};
 ghost use Rattle.host_fds.specs.Descriptors.{limit};
@@ -19,7 +19,7 @@ use guest_mem::{Mem, Right};
 use host_files::{File, Files, Object};
 use host_timers::{Clock, Moment, Timer};
 use host_wants::{CallError, Refusal};
-use sim_base::{Errno, NoMemory, ObjectId, Time};
+use sim_base::{AlarmTarget, Errno, NoMemory, Time};
 
 /// How a timer is set.
 #[derive(Clone, Copy)]
@@ -144,18 +144,6 @@ pub fn timerfd_create(
     Ok(fd)
 }
 
-/// The number from which on timers are objects of alarms.
-pub const FIRST_TIMER: u64 = 1 << 32;
-
-fn timer_object(place: usize) -> ObjectId
-    requires { place < 2 ^ 63 }
-    ensures { result ≡ spec.timer_object place }
-{
-    ObjectId {
-        number: FIRST_TIMER + place as u64,
-    }
-}
-
 fn is_zero(time: Moment) -> bool
     ensures { result ≡ spec.is_zero time }
 {
@@ -186,7 +174,6 @@ fn set(
     shared: &mut Shared,
 ) -> Result<(), NoMemory>
     requires now { now.nanos ≤ latest_time }
-    requires place { place < 2 ^ 63 }
     requires first { first.nanos ≤ longest_wait }
     requires interval { interval.nanos ≤ longest_wait }
     ensures { OnOk result (shared.new ≡ spec.sets now place old first.nanos interval.nanos shared.old) }
@@ -195,7 +182,7 @@ fn set(
         shared.files.set_timer(place, now, first, interval, old);
         return Ok(());
     }
-    let serial = shared.outlet.alarm(timer_object(place), first)?;
+    let serial = shared.outlet.alarm(AlarmTarget::Timer(place), first)?;
     shared.files.set_timer(place, now, first, interval, serial);
     Ok(())
 }
@@ -251,8 +238,7 @@ fn timer_number(object: Object) -> Result<usize, Refusal>
 /// The timer that a descriptor names, as it is.
 fn old_timer(now: Time, fd: u32, task: &Task, files: &Files) -> Result<OldTimer, Refusal>
     requires { now.nanos ≤ latest_time }
-    ensures old { result ≡ spec.old_timer now fd task.now files.now }
-    ensures place { IfOk result (λ old. old.place < 2 ^ 63) }
+    ensures { result ≡ spec.old_timer now fd task.now files.now }
 {
     let d = look_up(fd, task, files)?;
     let place = timer_number(d.file.object)?;
@@ -296,8 +282,7 @@ fn set_by(
     setting: Setting,
     shared: &mut Shared,
 ) -> Result<(), NoMemory>
-    requires now { now.nanos ≤ latest_time }
-    requires place { old.now.place < 2 ^ 63 }
+    requires { now.nanos ≤ latest_time }
     ensures { OnOk result (shared.new ≡ spec.set_by now flags old.now setting shared.old) }
 {
     let first = first_expiry(flags, old.clock, now, setting.value);
@@ -341,11 +326,10 @@ pub fn timerfd_settime(
 }
 
 fn ring_at(place: usize, due: Option<Time>, shared: &mut Shared) -> Result<(), NoMemory>
-    requires { place < 2 ^ 63 }
     ensures { OnOk result (shared.new ≡ spec.rings_at place (option_map (λ due. due.nanos) due) shared.old) }
 {
     if let Some(due) = due {
-        let serial = shared.outlet.alarm(timer_object(place), due)?;
+        let serial = shared.outlet.alarm(AlarmTarget::Timer(place), due)?;
         shared.files.set_serial(place, serial);
     }
     Ok(())
@@ -354,8 +338,7 @@ fn ring_at(place: usize, due: Option<Time>, shared: &mut Shared) -> Result<(), N
 /// When a timer's next alarm is due after the one with a serial. A stale serial has none.
 fn next_ring(now: Time, place: usize, serial: u64, files: &Files) -> Option<Time>
     requires { now.nanos ≤ latest_time }
-    ensures next { option_map (λ due. due.nanos) result ≡ spec.next_ring now serial (timer_at place files.now) }
-    ensures place { IsSome result → place < 2 ^ 63 }
+    ensures { option_map (λ due. due.nanos) result ≡ spec.next_ring now serial (timer_at place files.now) }
 {
     match files.timer(place) {
         Some(kept) => {
@@ -375,8 +358,5 @@ pub fn ring(now: Time, place: usize, serial: u64, shared: &mut Shared) -> Result
     ensures { OnOk result (shared.new ≡ spec.rings now place serial shared.old) }
 {
     let due = next_ring(now, place, serial, &shared.files);
-    if due.is_none() {
-        return Ok(());
-    }
     ring_at(place, due, shared)
 }

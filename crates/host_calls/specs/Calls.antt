@@ -1,7 +1,7 @@
 -- The table of system calls: which row a number has, what its answer is to a guest, and whether one that waits would answer.
 use Rattle.std.specs.Prelude.{◌≡◌, ◌≤◌, ℕ, ◌%◌, Bool, true, false, not, List, slice_index, Option, Some, None, Result, Ok, Err}
 use Rattle.sim_base.specs.declared.errno.Errno.TheVariants.{Enosys}
-use Rattle.sim_base.specs.declared.object.ObjectId.{ObjectId}
+use Rattle.sim_base.specs.declared.alarm.AlarmTarget.TheVariants.{Process}
 use Rattle.sim_base.specs.declared.state.State.{State}
 use Rattle.sim_base.specs.declared.state.State.TheVariants.{Exited}
 use Rattle.sim_base.specs.declared.time.Time.{Time}
@@ -191,17 +191,13 @@ abbrev pub row_of : Known → Time → ℕ → Option Call → List ℕ → Scen
 row_of known now process None args s = Err (refusal.Errno Enosys)
 row_of known now process (Some c) args s = row known now process c args s
 
--- a process's deadline is an object with the process's number
-abbrev pub deadline_object : ℕ → ObjectId
-deadline_object process = record { number = process }
-
 abbrev pub with_kept : Option Why → Task → Task
 with_kept why task = record task { kept = why }
 
 -- a call that waits is kept, with its deadline, of which an alarm tells; one that is made again is kept as it was
 abbrev pub with_alarm : ℕ → Option Time → Shared → Shared
 with_alarm process None shared = shared
-with_alarm process (Some deadline) shared = record shared { outlet = (wants_alarm (deadline_object process) deadline shared.outlet).1 }
+with_alarm process (Some deadline) shared = record shared { outlet = (wants_alarm (Process process) deadline shared.outlet).1 }
 
 abbrev pub blocks_by : ℕ → Why → Option Why → Local → Answer × Local
 blocks_by process why None (task, shared) = (answer.Block why, (with_kept (Some why) task, with_alarm process why.deadline shared))

@@ -1,9 +1,9 @@
 -- close(2), and the end of a process.
 use Rattle.std.specs.Prelude.{◌≡◌, ℕ, zero, suc, Result, Ok, Err}
 use Rattle.std.specs.FinMap as map
-use Rattle.sim_base.specs.declared.object.ObjectId.{ObjectId}
 use Rattle.sim_base.specs.declared.time.Time.{Time}
 use Rattle.sim_base.specs.Refusals.{◌>>=◌}
+use Rattle.host_fds.specs.declared.file_id.FileId.{FileId}
 use Rattle.host_fds.specs.Descriptors.{limit}
 use Rattle.host_fds.specs.declared.pipe.End.TheVariants.{Reading, Writing}
 use Rattle.host_files.specs.declared.file.Object.{Object}
@@ -52,7 +52,7 @@ abbrev pub forgets : ℕ → Object → Task → Task
 forgets fd object task = record task { epolls = forgotten fd (without_epoll object task.epolls) }
 
 -- the descriptor and the file are gone
-abbrev pub without_file : ℕ → ObjectId → Task → Shared × SocketsRecord → Scene
+abbrev pub without_file : ℕ → FileId → Task → Shared × SocketsRecord → Scene
 without_file fd id task (shared, t) = record {
   task = record task { table = map.remove task.table fd };
   shared = record shared { files = closed id shared.files };

@@ -1,12 +1,12 @@
 -- What a host does with a packet that arrives, an alarm, and the end of a process.
-use Rattle.std.specs.Prelude.{◌≡◌, ℕ, ◌-◌, Option, Some, None, nat_lt, if◌then◌else◌}
+use Rattle.std.specs.Prelude.{◌≡◌, ℕ, Option, Some, None}
 use Rattle.sim_base.specs.declared.act.Act.{Act}
-use Rattle.sim_base.specs.declared.object.ObjectId.{ObjectId}
+use Rattle.sim_base.specs.declared.alarm.AlarmTarget.{AlarmTarget}
+use Rattle.sim_base.specs.declared.alarm.AlarmTarget.TheVariants.{Process, Timer, Socket}
 use Rattle.sim_base.specs.declared.packet.Packet.{Packet}
 use Rattle.sim_base.specs.declared.time.Time.{Time}
 use Rattle.host_wants.specs.Wanted.{Wanted}
 use Rattle.host_sockets.specs.Sockets.{SocketsRecord}
-use Rattle.host_sockets.specs.TcpActs.{first_object}
 use Rattle.host_sockets.specs.Arriving as arriving
 use Rattle.host_sockets.specs.Alarms.{alarm_comes}
 use Rattle.host_calls.specs.declared.all.Parts.{Parts}
@@ -14,7 +14,7 @@ use Rattle.file_calls.specs.declared.task.Task.{Task}
 use Rattle.host_calls.specs.Calls.{scene_at, cleared}
 use Rattle.host_calls.specs.Closing.{all_closed}
 use Rattle.host_calls.specs.Parts.{PartsRecord, PartsStand, Place, place_of, place_in, with_place}
-use Rattle.file_calls.specs.Times.{first_timer, rings}
+use Rattle.file_calls.specs.Times.{rings}
 
 -- what the sockets leave
 abbrev pub with_wanted : SocketsRecord × Wanted → PartsRecord → PartsRecord
@@ -27,19 +27,11 @@ with_act (act, after) h = (act, with_wanted after h)
 abbrev pub arrives : Time → Packet → PartsRecord → Act × PartsRecord
 arrives now packet h = with_act (arriving.arrives now packet h.sockets h.shared.outlet) h
 
--- an alarm: objects below 2^32 are deadlines of processes, those below 2^33 timers, and the others connections
-abbrev pub timer_number : ObjectId → ℕ
-timer_number object = object.number - first_timer
-
-abbrev pub rung : Time → ObjectId → ℕ → PartsRecord → PartsRecord
-rung now object serial h =
-    record h { shared = rings now (timer_number object) serial h.shared }
-
-abbrev pub alarmed : Time → ObjectId → ℕ → PartsRecord → PartsRecord
-alarmed now object serial h =
-    if nat_lt object.number first_timer then h
-    else if nat_lt object.number first_object then rung now object serial h
-    else with_wanted (alarm_comes now object serial h.sockets h.shared.outlet) h
+-- an alarm. That of a deadline changes nothing by itself: as each event ends, the calls that wait are asked again
+abbrev pub alarmed : Time → AlarmTarget → ℕ → PartsRecord → PartsRecord
+alarmed now (Process p) serial h = h
+alarmed now (Timer k) serial h = record h { shared = rings now k serial h.shared }
+alarmed now (Socket k) serial h = with_wanted (alarm_comes now k serial h.sockets h.shared.outlet) h
 
 -- the end of a process, if it is there: its descriptors are closed, and it waits in no call
 abbrev pub ended_by : Time → Option Task → Place → Place

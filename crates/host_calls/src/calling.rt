@@ -21,7 +21,7 @@ use file_calls::{
 };
 use host_sockets::Sockets;
 use host_wants::{CallError, Refusal};
-use sim_base::{Errno, NoMemory, ObjectId, State, Time};
+use sim_base::{AlarmTarget, Errno, NoMemory, State, Time};
 
 /// The row of a call that needs no sockets.
 fn plain_row(
@@ -217,20 +217,13 @@ fn exited(status: u32) -> State
     State::Exited((status % 256) as u8)
 }
 
-/// The object that is a process's deadline.
-fn deadline_object(process: u32) -> ObjectId
-    ensures { result ≡ spec.deadline_object process }
-{
-    ObjectId {
-        number: u64::from(process),
-    }
-}
-
 fn want_alarm(process: u32, deadline: Option<Time>, shared: &mut Shared) -> Result<(), NoMemory>
     ensures { OnOk result (shared.new ≡ spec.with_alarm process deadline shared.old) }
 {
     if let Some(deadline) = deadline {
-        let _serial = shared.outlet.alarm(deadline_object(process), deadline)?;
+        let _serial = shared
+            .outlet
+            .alarm(AlarmTarget::Process(process), deadline)?;
     }
     Ok(())
 }

@@ -10,9 +10,9 @@ ghost use Rattle.host_calls.specs.Parts.{place as place_at};
 
 use crate::all::Parts;
 use crate::calling::end_task;
-use file_calls::{FIRST_TIMER, Shared, Task, ring};
-use host_sockets::{FIRST_OBJECT, Sockets};
-use sim_base::{Act, NoMemory, ObjectId, Packet, Time};
+use file_calls::{Shared, Task, ring};
+use host_sockets::Sockets;
+use sim_base::{Act, AlarmTarget, NoMemory, Packet, Time};
 
 /// A packet arrives: it is handed to the sockets. Answers what the packet log tells of it.
 pub fn deliver(parts: &mut Parts, now: Time, packet: &Packet) -> Result<Act, NoMemory>
@@ -22,24 +22,20 @@ pub fn deliver(parts: &mut Parts, now: Time, packet: &Packet) -> Result<Act, NoM
     parts.sockets.deliver(&mut parts.shared.outlet, now, packet)
 }
 
-/// The alarm of an object: of a process's deadline, a timer or a TCP socket. A stale serial does
-/// nothing.
-pub fn alarm(parts: &mut Parts, now: Time, object: ObjectId, serial: u64) -> Result<(), NoMemory>
+/// An alarm: of a process's deadline, a timer or a TCP socket. A stale serial does nothing.
+pub fn alarm(parts: &mut Parts, now: Time, target: AlarmTarget, serial: u64) -> Result<(), NoMemory>
     requires { now.nanos ≤ latest_time }
-    ensures { OnOk result ((h : PartsRecord) → PartsStand parts.old h → PartsStand parts.new (spec.alarmed now object serial h)) }
+    ensures { OnOk result ((h : PartsRecord) → PartsStand parts.old h → PartsStand parts.new (spec.alarmed now target serial h)) }
 {
-    if object.number < FIRST_TIMER {
-        return Ok(());
+    match target {
+        AlarmTarget::Process(_) => Ok(()),
+        AlarmTarget::Timer(place) => ring(now, place, serial, &mut parts.shared),
+        AlarmTarget::Socket(place) => {
+            parts
+                .sockets
+                .expire(&mut parts.shared.outlet, now, place, serial)
+        }
     }
-    if object.number < FIRST_OBJECT {
-        let place = (object.number - FIRST_TIMER) as usize;
-        ring(now, place, serial, &mut parts.shared)?;
-        return Ok(());
-    }
-    parts
-        .sockets
-        .expire(&mut parts.shared.outlet, now, object, serial)?;
-    Ok(())
 }
 
 fn end_place(

@@ -3,12 +3,14 @@
 
 mod epoll;
 mod eventfd;
+mod file_id;
 mod pipe;
 mod rises;
 mod table;
 
 pub use epoll::{Entry, Epoll, Seen, Watch};
 pub use eventfd::Eventfd;
+pub use file_id::FileId;
 pub use pipe::{End, Pipe};
 pub use rises::Rises;
 pub use table::Table;

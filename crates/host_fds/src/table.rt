@@ -4,16 +4,17 @@ ghost use Rattle.std.specs.Prelude.{◌≡◌, ◌+◌, ◌<◌, None, is_none, 
 ghost use Rattle.std.specs.FinMap as map;
 ghost use Rattle.host_fds.specs.Descriptors.{IsLowestFree, IsFull, limit};
 
-use sim_base::{NoMemory, ObjectId};
+use crate::file_id::FileId;
+use sim_base::NoMemory;
 use std::alloc::Global;
 use std::marker::Model;
 
-/// The descriptors of a process: numbers 0 to 255, each free or naming an object.
+/// The descriptors of a process: numbers 0 to 255, each free or naming an open file.
 ///
-/// Contracts see it as a finite map from numbers to objects.
+/// Contracts see it as a finite map from numbers to open files.
 #[derive(Drop)]
 pub struct Table {
-    slots: Vec<Option<ObjectId>>,
+    slots: Vec<Option<FileId>>,
 }
 
 impl Model for Table {
@@ -30,7 +31,7 @@ impl Model for Table {
 }
 
 /// How many slots are empty.
-fn count_free(slots: &[Option<ObjectId>]) -> usize
+fn count_free(slots: &[Option<FileId>]) -> usize
     ensures { result ≡ count_by is_none slots.now }
 {
     slots.iter().filter(|slot| slot.is_none()).count()
@@ -49,9 +50,9 @@ impl Table {
         })
     }
 
-    /// The object that a number names. A number above 255 names none.
-    pub fn get(&self, fd: u32) -> Option<ObjectId>
-        ensures object { result ≡ map.get self.now fd }
+    /// The open file that a number names. A number above 255 names none.
+    pub fn get(&self, fd: u32) -> Option<FileId>
+        ensures file { result ≡ map.get self.now fd }
         ensures in_range { IsSome result → fd < limit }
     {
         self.slots.get(fd as usize).copied().flatten()
@@ -77,22 +78,22 @@ impl Table {
         count_free(&self.slots)
     }
 
-    /// Gives a free number to an object.
-    pub fn place(&mut self, fd: u32, object: ObjectId)
+    /// Gives a free number to an open file.
+    pub fn place(&mut self, fd: u32, file: FileId)
         requires in_range { fd < limit }
         requires is_free { map.get self.old fd ≡ None }
-        ensures { self.new ≡ map.insert self.old fd object }
+        ensures { self.new ≡ map.insert self.old fd file }
     {
-        self.slots[fd as usize] = Some(object);
+        self.slots[fd as usize] = Some(file);
     }
 
     /// Frees a number, and answers what it named.
-    pub fn close(&mut self, fd: u32) -> Option<ObjectId>
-        ensures object { result ≡ map.get self.old fd }
+    pub fn close(&mut self, fd: u32) -> Option<FileId>
+        ensures file { result ≡ map.get self.old fd }
         ensures freed { self.new ≡ map.remove self.old fd }
     {
-        let object = self.get(fd)?;
+        let file = self.get(fd)?;
         self.slots[fd as usize] = None;
-        Some(object)
+        Some(file)
     }
 }

@@ -1,6 +1,6 @@
 -- What the descriptors of a host's processes name.
 use Rattle.std.specs.Prelude.{ℕ, ◌+◌, ◌||◌, min, List, [], take, Option, Some, None, if◌then◌else◌}
-use Rattle.sim_base.specs.declared.object.ObjectId.{ObjectId}
+use Rattle.host_fds.specs.declared.file_id.FileId.{FileId}
 use Rattle.host_fds.specs.Pipe.{PipeState, new_pipe, count_taken}
 use Rattle.host_fds.specs.Pipe as pipe
 use Rattle.host_fds.specs.Eventfd as eventfd
@@ -24,22 +24,22 @@ abbrev pub no_files : FilesState
 no_files = record { files = []; pipes = []; timers = []; eventfds = [] }
 
 -- the open file that a descriptor names
-abbrev pub file_at : ObjectId → FilesState → Option File
+abbrev pub file_at : FileId → FilesState → Option File
 file_at id s = at id.number s.files
 
 -- a file is opened, and gets the least free number
-abbrev pub next_file : FilesState → ObjectId
+abbrev pub next_file : FilesState → FileId
 next_file s = record { number = free_place s.files }
 
 abbrev pub opened : File → FilesState → FilesState
 opened file s = record s { files = added file s.files }
 
 -- another file in one's place, as one whose flag is set, or of which more was read
-abbrev pub replaced : ObjectId → File → FilesState → FilesState
+abbrev pub replaced : FileId → File → FilesState → FilesState
 replaced id file s = record s { files = acts (λ _. Some file) id.number s.files }
 
 -- a file is closed
-abbrev pub closed : ObjectId → FilesState → FilesState
+abbrev pub closed : FileId → FilesState → FilesState
 closed id s = record s { files = without id.number s.files }
 
 -- pipe(2): a new pipe

@@ -8,9 +8,9 @@ ghost use Rattle.host_files.specs.Slots as act;
 use crate::file::File;
 use crate::slots::{add, at, free};
 use crate::timer::KeptTimer;
-use host_fds::{End, Eventfd, Pipe};
+use host_fds::{End, Eventfd, FileId, Pipe};
 use host_timers::Timer;
-use sim_base::{NoMemory, ObjectId, Time};
+use sim_base::{NoMemory, Time};
 use std::alloc::Global;
 use std::marker::Model;
 
@@ -54,7 +54,7 @@ impl Files {
     }
 
     /// The open file with a number.
-    pub fn file(&self, id: ObjectId) -> Option<File>
+    pub fn file(&self, id: FileId) -> Option<File>
         ensures { result ≡ spec.file_at id self.now }
     {
         let place = usize::try_from(id.number).ok()?;
@@ -62,18 +62,18 @@ impl Files {
     }
 
     /// Opens a file, and answers its number, the least free one.
-    pub fn open(&mut self, file: File) -> Result<ObjectId, NoMemory>
+    pub fn open(&mut self, file: File) -> Result<FileId, NoMemory>
         ensures number { IfOk result (λ id. id ≡ spec.next_file self.old) }
         ensures opened { IfOk result (λ _. self.new ≡ spec.opened file self.old) }
     {
         let place = add(&mut self.files, file)?;
-        Ok(ObjectId {
+        Ok(FileId {
             number: place as u64,
         })
     }
 
     /// Puts another file in the place of one, as one whose flag is set, or of which more was read.
-    pub fn replace(&mut self, id: ObjectId, file: File)
+    pub fn replace(&mut self, id: FileId, file: File)
         ensures { self.new ≡ spec.replaced id file self.old }
     {
         if id.number < self.files.len() as u64 {
@@ -82,7 +82,7 @@ impl Files {
     }
 
     /// Closes a file, whose number is then free.
-    pub fn close(&mut self, id: ObjectId)
+    pub fn close(&mut self, id: FileId)
         ensures { self.new ≡ spec.closed id self.old }
     {
         if id.number < self.files.len() as u64 {

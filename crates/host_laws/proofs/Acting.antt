@@ -1,9 +1,9 @@
 -- What events do to a host's processes.
 use Rattle.std.proofs.Common.{◌≡◌, ℕ, zero, suc, List, [], ◌∷◌, Option, Some, None, nat_lt, slice_get, refl, sym, subst, ◌∙◌, append-nil, arith}
 use Rattle.sim_base.specs.declared.act.Act.TheVariants.{FullDown}
+use Rattle.sim_base.specs.declared.alarm.AlarmTarget.{AlarmTarget}
 use Rattle.sim_base.specs.declared.event.What.{What}
 use Rattle.sim_base.specs.declared.event.What.TheVariants as what
-use Rattle.sim_base.specs.declared.object.ObjectId.{ObjectId}
 use Rattle.sim_base.specs.declared.packet.Packet.{Packet}
 use Rattle.sim_base.specs.declared.signal.Signal.{Signal}
 use Rattle.sim_base.specs.declared.signal.Signal.TheVariants.{SigXcpu}
@@ -191,16 +191,16 @@ module _ (net : Net) where
   unfolding shuts
   shutting p h = shutting_if p (running_in (slice_get h.processes p)) h
 
-  ringing : (object : ObjectId) (serial : ℕ) (h : HostRecord) → IsQuiet h (rings net object serial h)
+  ringing : (target : AlarmTarget) (serial : ℕ) (h : HostRecord) → IsQuiet h (rings net target serial h)
   unfolding rings
-  ringing object serial h = settling (with_parts (alarmed h.link.time object serial h.parts) h)
+  ringing target serial h = settling (with_parts (alarmed h.link.time target serial h.parts) h)
 
   pub acting : (w : What) (h : HostRecord) → PassesTo h (acts net w h)
   unfolding acts
   acting (what.Start p) h = starting p h
   acting (what.Go p) h = going_on p h
   acting (what.Shutdown p) h = shutting p h
-  acting (what.Alarm object serial) h = passes_quiet h (rings net object serial h) (ringing object serial h)
+  acting (what.Alarm target serial) h = passes_quiet h (rings net target serial h) (ringing target serial h)
   acting (what.Loop packet) h = passes_quiet h (is_handed_over net packet h) (handed packet h)
   acting what.Up h = passes_quiet h (on_wire (up_comes net) h) (coming_up h)
   acting what.Down h = passes_quiet h (down_comes net h) (coming_down h)

@@ -145,6 +145,6 @@ module _ (net : Net) where
   wants_later own [] w = stays w.0
   wants_later own (wanted.Send p ∷ ws) w =
       then_later w.0 (sends net own p w).0 _ (sends_later own p w) (wants_later own ws (sends net own p w))
-  wants_later own (wanted.Alarm object serial due ∷ ws) w =
-      let m : LinkState = makes due (what.Alarm object serial) w.0 in
-      then_later w.0 m _ (makes_later w.0 due (what.Alarm object serial)) (wants_later own ws (m, w.1))
+  wants_later own (wanted.Alarm target serial due ∷ ws) w =
+      let m : LinkState = makes due (what.Alarm target serial) w.0 in
+      then_later w.0 m _ (makes_later w.0 due (what.Alarm target serial)) (wants_later own ws (m, w.1))

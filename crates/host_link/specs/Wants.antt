@@ -12,7 +12,7 @@ use Rattle.host_link.specs.Sending.{Wire, sends}
 -- a packet that is wanted is sent, and an alarm is an event
 unfoldable pub does_want : Net → Ip → Want → Wire → Wire
 does_want net own (Send packet) wire = sends net own packet wire
-does_want net own (Alarm object serial due) (link, wanted) = (makes due (what.Alarm object serial) link, wanted)
+does_want net own (Alarm target serial due) (link, wanted) = (makes due (what.Alarm target serial) link, wanted)
 
 unfoldable pub does_all : Net → Ip → List Want → Wire → Wire
 does_all net own [] wire = wire

@@ -24,10 +24,10 @@ impl Link {
         match want {
             Want::Send(packet) => self.send(outlet, net, own, packet),
             Want::Alarm {
-                object,
+                target,
                 serial,
                 due,
-            } => self.make(due, What::Alarm { object, serial }),
+            } => self.make(due, What::Alarm { target, serial }),
         }
     }
 

@@ -65,14 +65,6 @@ leaves_none c t w k act h b =
     subst (λ (o : Option TcpSocket). Leaves c w (acts_in k act o t w)) (sym (no_socket_at c.tcp.items t.tcp k h.tcp b))
     (record { sockets = h; wanted = refl })
 
--- the same where the number is told by an equation
-pub leaves_acted_by : (c c' : Sockets) (t : SocketsRecord) (w w' : Wanted) (k n : ℕ) (old new : TcpSock) (before : Glance) (kept : List Carried) (act : ℕ → TcpSocket → Wanted → Acted) → k ≡ n → Stand c t → k < length c.tcp.items → old ≡ get_or c.tcp.items k old → ((s : TcpSocket) → SocketStands old s → Brings new w' c.gone.items kept (act k s w)) → ((s : TcpSocket) → slice_get t.tcp k ≡ Some s → before ≡ tcp_glance s) → ActEnds c c' k before new kept → Leaves c' w' (acts_at n (act n) t w)
-leaves_acted_by c c' t w w' k n old new before kept act e h b is acts seen ends =
-    subst (λ (m : ℕ). Leaves c' w' (acts_at m (act m) t w)) e (leaves_acted c c' t w w' k old new before kept (act k) h b is acts seen ends)
-
-pub leaves_none_by : (c : Sockets) (t : SocketsRecord) (w : Wanted) (k n : ℕ) (act : ℕ → TcpSocket → Wanted → Acted) → k ≡ n → Stand c t → length c.tcp.items ≤ k → Leaves c w (acts_at n (act n) t w)
-leaves_none_by c t w k n act e h b = subst (λ (m : ℕ). Leaves c w (acts_at m (act m) t w)) e (leaves_none c t w k (act k) h b)
-
 -- a change that wants nothing
 pub stand_changed : (c c' : Sockets) (t : SocketsRecord) (k : ℕ) (old new : TcpSock) (before : Glance) (f : TcpSocket → TcpSocket) → Stand c t → k < length c.tcp.items → old ≡ get_or c.tcp.items k old → ((s : TcpSocket) → SocketStands old s → SocketStands new (f s)) → ((s : TcpSocket) → slice_get t.tcp k ≡ Some s → before ≡ tcp_glance s) → ActEnds c c' k before new c.gone.items → Stand c' (changes_at k f t)
 stand_changed c c' t k old new before f h b is changes seen ends =

@@ -1,6 +1,5 @@
 -- an alarm of a TCP socket: the timer of its record, or of one that its listener keeps. A stale serial does nothing
-use Rattle.std.specs.Prelude.{ℕ, ◌==◌, ◌-◌, List, find, Option, Some, None, if◌then◌else◌}
-use Rattle.sim_base.specs.declared.object.ObjectId.{ObjectId}
+use Rattle.std.specs.Prelude.{ℕ, ◌==◌, List, find, Option, Some, None, if◌then◌else◌}
 use Rattle.sim_base.specs.declared.time.Time.{Time}
 use Rattle.sock_tcp.specs.connection.Begin.{begin}
 use Rattle.sock_tcp.specs.connection.Process.{expires}
@@ -9,7 +8,7 @@ use Rattle.host_sockets.specs.declared.tcp_sock.KeptTimer.{KeptTimer}
 use Rattle.host_wants.specs.Wanted.{Wanted}
 use Rattle.host_sockets.specs.TcpSocket.{TcpSocket}
 use Rattle.host_sockets.specs.Sockets.{SocketsRecord}
-use Rattle.host_sockets.specs.TcpActs.{Acted, unacted, first_object, record_acts, acts_at}
+use Rattle.host_sockets.specs.TcpActs.{Acted, unacted, record_acts, acts_at}
 use Rattle.host_sockets.specs.ListenerActs.{dropped, heard}
 
 -- the timer of a kept record
@@ -31,9 +30,5 @@ socket_expires now k serial s w =
     then record_acts now k (λ r. expires (begin r)) s w
     else timer_expires now k (kept_timer serial s.timers) s w
 
-abbrev pub place_of : ObjectId → ℕ
-place_of object = object.number - first_object
-
-unfoldable pub alarm_comes : Time → ObjectId → ℕ → SocketsRecord → Wanted → SocketsRecord × Wanted
-alarm_comes now object serial t w =
-    acts_at (place_of object) (socket_expires now (place_of object) serial) t w
+unfoldable pub alarm_comes : Time → ℕ → ℕ → SocketsRecord → Wanted → SocketsRecord × Wanted
+alarm_comes now k serial t w = acts_at k (socket_expires now k serial) t w

@@ -1,6 +1,7 @@
 -- what acts on the records that a listener keeps do to its socket
 use Rattle.std.specs.Prelude.{ℕ, Bool, not, ◌&&◌, List, [], ◌∷◌, ◌++◌, filter, Option, Some, None, if◌then◌else◌}
 use Rattle.sim_base.specs.declared.address.Addr.{Addr}
+use Rattle.sim_base.specs.declared.alarm.AlarmTarget.TheVariants.{Socket}
 use Rattle.sim_base.specs.declared.time.Time.{Time}
 use Rattle.sim_base.specs.Addresses.{is_same}
 use Rattle.sock_tcp.specs.connection.Tcb.{Tcb}
@@ -9,7 +10,7 @@ pub use Rattle.sock_tcp.specs.listener.Dropped.{dropped_by, dropped}
 use Rattle.host_sockets.specs.declared.tcp_sock.KeptTimer.{KeptTimer}
 use Rattle.host_wants.specs.Wanted.{Wanted, sends, wants_alarm, due_after}
 use Rattle.host_sockets.specs.TcpSocket.{TcpSocket}
-use Rattle.host_sockets.specs.TcpActs.{Acted, object_of}
+use Rattle.host_sockets.specs.TcpActs.{Acted}
 
 abbrev pub with_listen : Listen → TcpSocket → TcpSocket
 with_listen l s = record s { listen = Some l }
@@ -36,7 +37,7 @@ timers_kept own other l timers = if is_kept own other l then timers else without
 abbrev pub timer_starts : Time → ℕ → Addr → Addr → Option Time → List KeptTimer → Wanted → List KeptTimer × Wanted
 timer_starts now k own other None timers w = (timers, w)
 timer_starts now k own other (Some length) timers w =
-    let alarm = wants_alarm (object_of k) (due_after now length) w in
+    let alarm = wants_alarm (Socket k) (due_after now length) w in
     (with_timer own other alarm.0 timers, alarm.1)
 
 -- EVERY act on a record of two ends that a listener keeps, or makes, is this: its segments are sent, then its timer starts, and

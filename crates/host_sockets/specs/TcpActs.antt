@@ -1,6 +1,6 @@
 -- what acts on records do to a socket
-use Rattle.std.specs.Prelude.{ℕ, ◌+◌, ◌^◌, Bool, not, ◌&&◌, ◌||◌, List, [], ◌∷◌, ◌++◌, slice_get, Option, Some, None, is_none, if◌then◌else◌}
-use Rattle.sim_base.specs.declared.object.ObjectId.{ObjectId}
+use Rattle.std.specs.Prelude.{ℕ, Bool, not, ◌&&◌, ◌||◌, List, [], ◌∷◌, ◌++◌, slice_get, Option, Some, None, is_none, if◌then◌else◌}
+use Rattle.sim_base.specs.declared.alarm.AlarmTarget.TheVariants.{Socket}
 use Rattle.sim_base.specs.declared.time.Time.{Time}
 use Rattle.sock_tcp.specs.segment.State.{is_over}
 use Rattle.sock_tcp.specs.connection.Tcb.{Tcb, Turn}
@@ -17,13 +17,6 @@ pub record Acted : Type 0 where
 
 abbrev pub unacted : TcpSocket → Wanted → Acted
 unacted s w = record { socket = s; wanted = w; gone = [] }
-
--- the object that is the TCP socket with a number
-abbrev pub first_object : ℕ
-first_object = 2 ^ 33
-
-abbrev pub object_of : ℕ → ObjectId
-object_of k = record { number = first_object + k }
 
 -- a record that is over is let go where no descriptor names its socket any more, and where it was never ESTABLISHED, so that
 -- its connect failed, and its error was taken
@@ -46,7 +39,7 @@ with_alarm alarm s = (record s { serial = alarm.0 }, alarm.1)
 
 abbrev pub starts : Time → ℕ → Option Time → TcpSocket → Wanted → TcpSocket × Wanted
 starts now k None s w = (s, w)
-starts now k (Some length) s w = with_alarm (wants_alarm (object_of k) (due_after now length) w) s
+starts now k (Some length) s w = with_alarm (wants_alarm (Socket k) (due_after now length) w) s
 
 -- EVERY act on the record of a socket is this: its segments are sent, then its timer starts, and a record that is done with is
 -- let go

@@ -5,9 +5,8 @@ ghost use Rattle.sock_tcp.specs.listener.Listen.{asks_in, load_header};
 
 use crate::slots::Sought;
 use crate::sockets::Sockets;
-use crate::turned::place_of;
 use host_wants::Outlet;
-use sim_base::{Act, Load, NoMemory, ObjectId, Packet, Time};
+use sim_base::{Act, Load, NoMemory, Packet, Time};
 use sock_tcp::{Header, refusal};
 
 /// Whether a load is a segment that asks for a connection.
@@ -208,18 +207,17 @@ impl Sockets {
         }
     }
 
-    /// An alarm of a TCP socket comes. A serial that is stale does nothing.
+    /// An alarm of the TCP socket with a number comes. A serial that is stale does nothing.
     pub fn expire(
         &mut self,
         outlet: &mut Outlet,
         now: Time,
-        object: ObjectId,
+        k: usize,
         serial: u64,
     ) -> Result<(), NoMemory>
         ensures { OnOk result ((t : SocketsRecord) → Stand self.old t
-            → Leaves self.new outlet.new (alarm_comes now object serial t outlet.old)) }
+            → Leaves self.new outlet.new (alarm_comes now k serial t outlet.old)) }
     {
-        let k = place_of(object);
         if k >= self.tcp.len() {
             return Ok(());
         }

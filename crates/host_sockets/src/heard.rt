@@ -68,7 +68,7 @@ fn hear(
 }
 
 impl TcpSock {
-    ghost use Rattle.std.specs.Prelude.{◌≡◌, ◌<◌, ◌^◌, List, Some, OnOk};
+    ghost use Rattle.std.specs.Prelude.{◌≡◌, List, Some, OnOk};
     ghost use Rattle.sock_tcp.specs.declared.connection.carried.Carried.{Carried};
     ghost use Rattle.sock_tcp.specs.connection.Carried.{with_gone};
     ghost use Rattle.sock_tcp.specs.connection.Tcb.{Tcb};
@@ -91,7 +91,6 @@ impl TcpSock {
         other: Addr,
         timer: Option<Time>,
     ) -> Result<(), NoMemory>
-        requires { place < 2 ^ 63 }
         ensures socket { OnOk result ((s : TcpSocket) → SocketStands self.old s
             → SocketStands self.new (with_timers (timer_starts now place own other timer s.timers outlet.old).0 s)) }
         ensures wanted { OnOk result ((s : TcpSocket)
@@ -126,7 +125,6 @@ impl TcpSock {
         other: Addr,
         effects: Effects,
     ) -> Result<(), NoMemory>
-        requires { place < 2 ^ 63 }
         ensures { OnOk result ((s : TcpSocket) (h : Heard) (dropped : List Tcb) (before gone : List Carried) → SocketStands self.old (with_listen h.listen s)
             → effects.segments.items ≡ h.sent → effects.timer ≡ h.timer → gone ≡ with_gone dropped before
             → Brings self.new outlet.new before gone (heard now place own other h dropped s outlet.old)) }
@@ -147,7 +145,6 @@ impl TcpSock {
         packet: &Packet,
         gone: &mut Vec<Carried>,
     ) -> Result<(), NoMemory>
-        requires { place < 2 ^ 63 }
         ensures { OnOk result ((s : TcpSocket) → SocketStands self.old s
             → Brings self.new outlet.new gone.old.items gone.new.items (listener_hears now packet.now place s outlet.old)) }
     {
@@ -168,7 +165,6 @@ impl TcpSock {
         timer: KeptTimer,
         gone: &mut Vec<Carried>,
     ) -> Result<(), NoMemory>
-        requires { place < 2 ^ 63 }
         ensures { OnOk result ((s : TcpSocket) → SocketStands self.old s
             → Brings self.new outlet.new gone.old.items gone.new.items (kept_expires now place timer s.listen s outlet.old)) }
     {
@@ -189,7 +185,6 @@ impl TcpSock {
         serial: u64,
         gone: &mut Vec<Carried>,
     ) -> Result<(), NoMemory>
-        requires { place < 2 ^ 63 }
         ensures { OnOk result ((s : TcpSocket) → SocketStands self.old s
             → Brings self.new outlet.new gone.old.items gone.new.items (socket_expires now place serial s outlet.old)) }
     {

@@ -35,4 +35,3 @@ pub use reply::{Accepted, Reply};
 pub use sockets::Sockets;
 pub use streams::HostStream;
 pub use tcp_sock::{KeptTimer, TcpSock};
-pub use turned::FIRST_OBJECT;

@@ -12,7 +12,7 @@ use sock_tcp::{Carried, Conn, Effects, Opened, Shut};
 use std::alloc::Global;
 
 impl TcpSock {
-    ghost use Rattle.std.specs.Prelude.{◌≡◌, ◌<◌, ◌≤◌, ◌^◌, length, OnOk, IfOk};
+    ghost use Rattle.std.specs.Prelude.{◌≡◌, ◌≤◌, length, OnOk, IfOk};
     ghost use Rattle.sock_tcp.specs.connection.Begin.{begin};
     ghost use Rattle.sock_tcp.specs.connection.Process.{shuts, closes, expires};
     ghost use Rattle.host_sockets.specs.TcpSocket.{TcpSocket};
@@ -31,7 +31,6 @@ impl TcpSock {
         packet: &Packet,
         gone: &mut Vec<Carried>,
     ) -> Result<(), NoMemory>
-        requires { place < 2 ^ 63 }
         ensures { OnOk result ((s : TcpSocket) → SocketStands self.old s
             → Brings self.new outlet.new gone.old.items gone.new.items (record_takes now packet.now place s outlet.old)) }
     {
@@ -51,7 +50,6 @@ impl TcpSock {
         place: usize,
         gone: &mut Vec<Carried>,
     ) -> Result<(), NoMemory>
-        requires { place < 2 ^ 63 }
         ensures { OnOk result ((s : TcpSocket) → SocketStands self.old s
             → Brings self.new outlet.new gone.old.items gone.new.items (record_acts now place (λ r. expires (begin r)) s outlet.old)) }
     {
@@ -72,7 +70,6 @@ impl TcpSock {
         how: Shut,
         gone: &mut Vec<Carried>,
     ) -> Result<(), NoMemory>
-        requires { place < 2 ^ 63 }
         ensures { OnOk result ((s : TcpSocket) → SocketStands self.old s
             → Brings self.new outlet.new gone.old.items gone.new.items (record_acts now place (λ r. shuts how (begin r)) s outlet.old)) }
     {
@@ -93,7 +90,6 @@ impl TcpSock {
         bytes: &[u8],
         gone: &mut Vec<Carried>,
     ) -> Result<usize, NoMemory>
-        requires { place < 2 ^ 63 }
         ensures count { IfOk result (λ count. (s : TcpSocket) → SocketStands self.old s → count ≡ count_taken bytes.now s.tcb) }
         ensures at_most { IfOk result (λ count. count ≤ length bytes.now) }
         ensures brings { OnOk result ((s : TcpSocket) → SocketStands self.old s
@@ -117,7 +113,6 @@ impl TcpSock {
         count: usize,
         gone: &mut Vec<Carried>,
     ) -> Result<Bytes, NoMemory>
-        requires { place < 2 ^ 63 }
         ensures given { IfOk result (λ bytes. (s : TcpSocket) → SocketStands self.old s → bytes ≡ bytes_given count s.tcb) }
         ensures at_most { IfOk result (λ bytes. length bytes ≤ count) }
         ensures brings { OnOk result ((s : TcpSocket) → SocketStands self.old s
@@ -142,7 +137,6 @@ impl TcpSock {
         place: usize,
         gone: &mut Vec<Carried>,
     ) -> Result<(), NoMemory>
-        requires { place < 2 ^ 63 }
         ensures { OnOk result ((s : TcpSocket) → SocketStands self.old s
             → Brings self.new outlet.new gone.old.items gone.new.items (error_takes now place s outlet.old)) }
     {
@@ -165,7 +159,6 @@ impl TcpSock {
         other: Addr,
         gone: &mut Vec<Carried>,
     ) -> Result<(), NoMemory>
-        requires { place < 2 ^ 63 }
         ensures { OnOk result ((s : TcpSocket) → SocketStands self.old s
             → Brings self.new outlet.new gone.old.items gone.new.items (opens now place own other s outlet.old)) }
     {

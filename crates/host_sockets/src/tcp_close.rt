@@ -6,7 +6,7 @@ use sim_base::{NoMemory, Time};
 use sock_tcp::{Carried, Effects};
 
 impl TcpSock {
-    ghost use Rattle.std.specs.Prelude.{◌≡◌, ◌<◌, ◌^◌, None, OnOk};
+    ghost use Rattle.std.specs.Prelude.{◌≡◌, None, OnOk};
     ghost use Rattle.sock_tcp.specs.connection.Begin.{begin};
     ghost use Rattle.sock_tcp.specs.connection.Process.{closes};
     ghost use Rattle.host_sockets.specs.TcpSocket.{TcpSocket};
@@ -22,7 +22,6 @@ impl TcpSock {
         place: usize,
         gone: &mut Vec<Carried>,
     ) -> Result<(), NoMemory>
-        requires { place < 2 ^ 63 }
         ensures { OnOk result ((s : TcpSocket) → SocketStands self.old s
             → Brings self.new outlet.new gone.old.items gone.new.items (record_acts now place (λ r. closes (begin r)) s outlet.old)) }
     {
@@ -52,7 +51,6 @@ impl TcpSock {
         place: usize,
         gone: &mut Vec<Carried>,
     ) -> Result<(), NoMemory>
-        requires { place < 2 ^ 63 }
         ensures { OnOk result ((s : TcpSocket) → SocketStands self.old s
             → Brings self.new outlet.new gone.old.items gone.new.items (closed now place s outlet.old)) }
     {

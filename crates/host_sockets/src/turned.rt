@@ -1,37 +1,16 @@
 //! What an act on the connection of a socket brings about.
 
-ghost use Rattle.std.specs.Prelude.{◌≡◌, ◌<◌, ◌^◌, IfOk};
+ghost use Rattle.std.specs.Prelude.{◌≡◌, IfOk};
 ghost use Rattle.host_wants.specs.Wanted.{wants_alarm, due_after};
-ghost use Rattle.host_sockets.specs.Alarms.{place_of};
-ghost use Rattle.host_sockets.specs.TcpActs.{object_of};
+ghost use Rattle.sim_base.specs.declared.alarm.AlarmTarget.TheVariants.{Socket};
 
 use crate::tcp_sock::TcpSock;
 use host_wants::Outlet;
-use sim_base::{NoMemory, ObjectId, Time};
+use sim_base::{AlarmTarget, NoMemory, Time};
 use sock_tcp::{Carried, Control, Effects};
-
-/// Objects from here on are TCP sockets, by their numbers.
-pub const FIRST_OBJECT: u64 = 1 << 33;
 
 /// The latest moment that an alarm is due.
 const LATEST: u64 = 1 << 62;
-
-/// The object that is the TCP socket with a number.
-fn object_of(place: usize) -> ObjectId
-    requires { place < 2 ^ 63 }
-    ensures { result ≡ object_of place }
-{
-    ObjectId {
-        number: FIRST_OBJECT + place as u64,
-    }
-}
-
-/// The number of the TCP socket that an object is.
-pub(crate) fn place_of(object: ObjectId) -> usize
-    ensures { result ≡ place_of object }
-{
-    object.number.saturating_sub(FIRST_OBJECT) as usize
-}
 
 /// A moment later by a length.
 fn due_after(now: Time, length: Time) -> Time
@@ -49,16 +28,14 @@ pub(crate) fn start(
     place: usize,
     length: Time,
 ) -> Result<u64, NoMemory>
-    requires { place < 2 ^ 63 }
-    ensures { IfOk result (λ serial. (serial, outlet.new) ≡ wants_alarm (object_of place) (due_after now length) outlet.old) }
+    ensures { IfOk result (λ serial. (serial, outlet.new) ≡ wants_alarm (Socket place) (due_after now length) outlet.old) }
 {
-    let object = object_of(place);
     let due = due_after(now, length);
-    outlet.alarm(object, due)
+    outlet.alarm(AlarmTarget::Socket(place), due)
 }
 
 impl TcpSock {
-    ghost use Rattle.std.specs.Prelude.{◌≡◌, ◌<◌, ◌^◌, Some, OnOk, IfOk};
+    ghost use Rattle.std.specs.Prelude.{◌≡◌, Some, OnOk, IfOk};
     ghost use Rattle.sock_tcp.specs.connection.Carried.{with_gone};
     ghost use Rattle.sock_tcp.specs.connection.Tcb.{Tcb, Turn};
     ghost use Rattle.sock_tcp.specs.connection.Timer.{timer_of};
@@ -75,7 +52,6 @@ impl TcpSock {
         place: usize,
         timer: Option<Time>,
     ) -> Result<(), NoMemory>
-        requires { place < 2 ^ 63 }
         ensures socket { OnOk result ((s : TcpSocket) → SocketStands self.old s
             → SocketStands self.new (starts now place timer s outlet.old).0) }
         ensures wanted { OnOk result ((s : TcpSocket) → outlet.new ≡ (starts now place timer s outlet.old).1) }
@@ -133,7 +109,6 @@ impl TcpSock {
         effects: Effects,
         gone: &mut Vec<Carried>,
     ) -> Result<(), NoMemory>
-        requires { place < 2 ^ 63 }
         ensures { OnOk result ((s : TcpSocket) (t : Turn) → SocketStands self.old (with_tcb t.tcb s)
             → effects.segments.items ≡ t.sent → effects.timer ≡ timer_of t
             → Brings self.new outlet.new gone.old.items gone.new.items (turned now place t s outlet.old)) }

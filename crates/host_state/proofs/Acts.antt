@@ -2,11 +2,11 @@
 use Rattle.std.proofs.Common.{◌≡◌, ℕ, ◌<◌, ◌≤◌, Bool, true, false, List, [], ◌∷◌, Option, nat_lt, refl, sym, ap, subst, ◌∙◌, arith}
 use Rattle.std.specs.Prelude.{if◌then◌else◌}
 use Rattle.std.proofs.lemmas.Bool.Decides.{nat_tests}
+use Rattle.sim_base.specs.declared.alarm.AlarmTarget.{AlarmTarget}
 use Rattle.sim_base.specs.declared.size.TheConstants.{MAX_PACKET}
 use Rattle.sim_base.specs.Packet.{packet_size}
 use Rattle.sim_base.specs.declared.act.Act.{Act}
 use Rattle.sim_base.specs.declared.event.What.TheVariants as what
-use Rattle.sim_base.specs.declared.object.ObjectId.{ObjectId}
 use Rattle.sim_base.specs.declared.packet.Packet.{Packet}
 use Rattle.sim_base.specs.declared.time.Time.{Time}
 use Rattle.net_iface.specs.declared.lane.Pushed.{Pushed}
@@ -121,17 +121,17 @@ came_down net c d answer first dropped last releases drops does makes =
       parts = over_all.parts;
     })
 
-pub rang : (net : Net) (object : ObjectId) (serial : ℕ) (c d : Body) (now : Time) (parts : Parts) → now ≡ c.link.time
-    → ((p : PartsRecord) → PartsStand c.parts p → PartsStand parts (alarmed now object serial p))
-    → Does (settles net) (record c { parts = parts }) d → Does (rings net object serial) c d
+pub rang : (net : Net) (target : AlarmTarget) (serial : ℕ) (c d : Body) (now : Time) (parts : Parts) → now ≡ c.link.time
+    → ((p : PartsRecord) → PartsStand c.parts p → PartsStand parts (alarmed now target serial p))
+    → Does (settles net) (record c { parts = parts }) d → Does (rings net target serial) c d
 unfolding rings
-rang net object serial c d now parts now_is alarms_now does =
-    let alarms : (p : PartsRecord) → PartsStand c.parts p → PartsStand parts (alarmed c.link.time object serial p) =
-    subst (λ (t : Time). (p : PartsRecord) → PartsStand c.parts p → PartsStand parts (alarmed t object serial p)) now_is alarms_now in
-    seen_all (λ (h : HostRecord). BodyStands d (rings net object serial h)) c
+rang net target serial c d now parts now_is alarms_now does =
+    let alarms : (p : PartsRecord) → PartsStand c.parts p → PartsStand parts (alarmed c.link.time target serial p) =
+    subst (λ (t : Time). (p : PartsRecord) → PartsStand c.parts p → PartsStand parts (alarmed t target serial p)) now_is alarms_now in
+    seen_all (λ (h : HostRecord). BodyStands d (rings net target serial h)) c
     (λ t w s.
     let h : HostRecord = seen c t w in
-    does (with_parts (alarmed c.link.time object serial h.parts) h)
+    does (with_parts (alarmed c.link.time target serial h.parts) h)
     (record { row = refl; link = refl; processes = refl; parts = alarms h.parts (stands_seen c t w s).parts }))
 
 -- ---- packets one after another

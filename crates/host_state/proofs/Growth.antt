@@ -327,9 +327,9 @@ module _ (net : Net) (lookahead : Option ℕ) (routes : IsLookaheadOf net lookah
   grows_wants own [] w sound = grows_not w.0 sound
   grows_wants own (wanted.Send p ∷ ws) w sound =
       grows_on w.0 (sends net own p w).0 _ (grows_sends own p w sound) (λ next. grows_wants own ws (sends net own p w) next)
-  grows_wants own (wanted.Alarm object serial due ∷ ws) w sound =
-      let m : LinkState = makes due (what.Alarm object serial) w.0 in
-      grows_on w.0 m _ (grows_makes w.0 due (what.Alarm object serial) sound (λ differ. absurd (differ refl)) tt) (λ next. grows_wants own ws (m, w.1) next)
+  grows_wants own (wanted.Alarm target serial due ∷ ws) w sound =
+      let m : LinkState = makes due (what.Alarm target serial) w.0 in
+      grows_on w.0 m _ (grows_makes w.0 due (what.Alarm target serial) sound (λ differ. absurd (differ refl)) tt) (λ next. grows_wants own ws (m, w.1) next)
 
   -- ---- hosts
 

@@ -1,10 +1,10 @@
 -- What firings add to a host's events.
 use Rattle.std.proofs.Common.{◌≡◌, ℕ, zero, suc, ◌≤◌, ◌&&◌, Bool, true, false, not, List, [], ◌∷◌, min, length, Option, Some, None, nat_lt, slice_get, refl, sym, subst, rules, tests}
 use Rattle.sim_base.specs.declared.act.Act.TheVariants.{FullDown}
+use Rattle.sim_base.specs.declared.alarm.AlarmTarget.{AlarmTarget}
 use Rattle.sim_base.specs.declared.event.Event.{Event}
 use Rattle.sim_base.specs.declared.event.What.{What}
 use Rattle.sim_base.specs.declared.event.What.TheVariants as what
-use Rattle.sim_base.specs.declared.object.ObjectId.{ObjectId}
 use Rattle.sim_base.specs.declared.packet.Packet.{Packet}
 use Rattle.sim_base.specs.declared.signal.Signal.{Signal}
 use Rattle.sim_base.specs.declared.signal.Signal.TheVariants.{SigXcpu}
@@ -197,16 +197,16 @@ module _ (net : Net) (lookahead : Option ℕ) (routes : IsLookaheadOf net lookah
   unfolding shuts
   shutting p h sound = shutting_if p (running_in (slice_get h.processes p)) h sound
 
-  ringing : (object : ObjectId) (serial : ℕ) (h : HostRecord) → IsSound net h.link → H h (rings net object serial h)
+  ringing : (target : AlarmTarget) (serial : ℕ) (h : HostRecord) → IsSound net h.link → H h (rings net target serial h)
   unfolding rings
-  ringing object serial h sound = settling (with_parts (alarmed h.link.time object serial h.parts) h) sound
+  ringing target serial h sound = settling (with_parts (alarmed h.link.time target serial h.parts) h) sound
 
   acting : (w : What) (h : HostRecord) → IsSound net h.link → H h (acts net w h)
   unfolding acts
   acting (what.Start p) h sound = starting p h sound
   acting (what.Go p) h sound = going p h sound
   acting (what.Shutdown p) h sound = shutting p h sound
-  acting (what.Alarm object serial) h sound = ringing object serial h sound
+  acting (what.Alarm target serial) h sound = ringing target serial h sound
   acting (what.Loop packet) h sound = handed packet h sound
   acting what.Up h sound = coming_up h sound
   acting what.Down h sound = coming_down h sound

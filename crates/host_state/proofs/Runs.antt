@@ -87,7 +87,7 @@ packet_of net number source key (what.Packet packet) rest own away = refl
 packet_of net number source key (what.Start p) rest own away = absurd (let e : (source == number) ≡ true = (Decides-eqb source number).1 own in let f : true ≡ false = sym e ∙ away in cc)
 packet_of net number source key (what.Go p) rest own away = absurd (let e : (source == number) ≡ true = (Decides-eqb source number).1 own in let f : true ≡ false = sym e ∙ away in cc)
 packet_of net number source key (what.Shutdown p) rest own away = absurd (let e : (source == number) ≡ true = (Decides-eqb source number).1 own in let f : true ≡ false = sym e ∙ away in cc)
-packet_of net number source key (what.Alarm object serial) rest own away = absurd (let e : (source == number) ≡ true = (Decides-eqb source number).1 own in let f : true ≡ false = sym e ∙ away in cc)
+packet_of net number source key (what.Alarm target serial) rest own away = absurd (let e : (source == number) ≡ true = (Decides-eqb source number).1 own in let f : true ≡ false = sym e ∙ away in cc)
 packet_of net number source key (what.Loop packet) rest own away = absurd (let e : (source == number) ≡ true = (Decides-eqb source number).1 own in let f : true ≡ false = sym e ∙ away in cc)
 packet_of net number source key what.Up rest own away = absurd (let e : (source == number) ≡ true = (Decides-eqb source number).1 own in let f : true ≡ false = sym e ∙ away in cc)
 packet_of net number source key what.Down rest own away = absurd (let e : (source == number) ≡ true = (Decides-eqb source number).1 own in let f : true ≡ false = sym e ∙ away in cc)
@@ -97,7 +97,7 @@ posted_append to key (what.Packet packet) xs ys = refl
 posted_append to key (what.Start p) xs ys = refl
 posted_append to key (what.Go p) xs ys = refl
 posted_append to key (what.Shutdown p) xs ys = refl
-posted_append to key (what.Alarm object serial) xs ys = refl
+posted_append to key (what.Alarm target serial) xs ys = refl
 posted_append to key (what.Loop packet) xs ys = refl
 posted_append to key what.Up xs ys = refl
 posted_append to key what.Down xs ys = refl

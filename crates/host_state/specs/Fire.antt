@@ -2,10 +2,10 @@
 use Rattle.std.specs.Prelude.{ℕ, zero, suc, ◌&&◌, Bool, true, false, not, List, [], ◌++◌, length, min, slice_get, Option, Some, None, option_map, option_and_then, if◌then◌else◌}
 use Rattle.sim_base.specs.Limits.{most_processes}
 use Rattle.elf_load.specs.ProgramImage.{ProgramImage}
+use Rattle.sim_base.specs.declared.alarm.AlarmTarget.{AlarmTarget}
 use Rattle.sim_base.specs.declared.event.Event.{Event}
 use Rattle.sim_base.specs.declared.event.What.{What}
 use Rattle.sim_base.specs.declared.event.What.TheVariants as what
-use Rattle.sim_base.specs.declared.object.ObjectId.{ObjectId}
 use Rattle.sim_base.specs.declared.time.Time.{Time}
 use Rattle.file_calls.specs.declared.task.Output.{Output}
 use Rattle.file_calls.specs.declared.task.Task.{Task}
@@ -107,10 +107,10 @@ shuts_if net p (Some r) host = is_shut net p (shutdown_signal host.row p) host
 unfoldable pub shuts : Net → ℕ → HostRecord → HostRecord
 shuts net p host = shuts_if net p (running_in (slice_get host.processes p)) host
 
--- ---- Alarm: a moment has come for an object
+-- ---- Alarm: the moment of an alarm has come
 
-unfoldable pub rings : Net → ObjectId → ℕ → HostRecord → HostRecord
-rings net object serial host = settles net (with_parts (alarmed host.link.time object serial host.parts) host)
+unfoldable pub rings : Net → AlarmTarget → ℕ → HostRecord → HostRecord
+rings net target serial host = settles net (with_parts (alarmed host.link.time target serial host.parts) host)
 
 -- ---- the table of events
 
@@ -118,7 +118,7 @@ unfoldable pub acts : Net → What → HostRecord → HostRecord
 acts net (what.Start p) host = starts net p host
 acts net (what.Go p) host = goes net p host
 acts net (what.Shutdown p) host = shuts net p host
-acts net (what.Alarm object serial) host = rings net object serial host
+acts net (what.Alarm target serial) host = rings net target serial host
 acts net (what.Loop packet) host = is_handed_over net packet host
 acts net what.Up host = on_wire (up_comes net) host
 acts net what.Down host = down_comes net host

@@ -12,7 +12,7 @@ use crate::host::Body;
 use host_calls::{alarm, deliver};
 use host_link::Net;
 use net_iface::Pushed;
-use sim_base::{Act, MAX_PACKET, NoMemory, ObjectId, Packet, What};
+use sim_base::{Act, AlarmTarget, MAX_PACKET, NoMemory, Packet, What};
 
 impl Body {
     /// The parts have acted: what they want is done.
@@ -101,12 +101,17 @@ impl Body {
         Ok(())
     }
 
-    /// A moment has come for an object.
-    pub(crate) fn ring(&mut self, net: &Net, object: ObjectId, serial: u64) -> Result<(), NoMemory>
-        ensures { OnOk result (Does (fire.rings net.now object serial) self.old self.new) }
+    /// The moment of an alarm has come.
+    pub(crate) fn ring(
+        &mut self,
+        net: &Net,
+        target: AlarmTarget,
+        serial: u64,
+    ) -> Result<(), NoMemory>
+        ensures { OnOk result (Does (fire.rings net.now target serial) self.old self.new) }
     {
         let now = self.link.now();
-        alarm(&mut self.parts, now, object, serial)?;
+        alarm(&mut self.parts, now, target, serial)?;
         self.settle(net)?;
         Ok(())
     }

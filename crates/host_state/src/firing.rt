@@ -159,7 +159,7 @@ impl Body {
             What::Start(process) => self.start(net, process),
             What::Go(process) => self.go(net, process),
             What::Shutdown(process) => self.shut_down(net, process),
-            What::Alarm { object, serial } => self.ring(net, object, serial),
+            What::Alarm { target, serial } => self.ring(net, target, serial),
             What::Loop(packet) => self.hand_over(net, packet),
             What::Up => self.come_up(net),
             What::Down => self.come_down(net),

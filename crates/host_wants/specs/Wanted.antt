@@ -1,7 +1,7 @@
 -- what the acts of a host want, in the order of the acts: packets to send, and alarms with a serial each
 use Rattle.std.specs.Prelude.{ℕ, ◌+◌, min, List, [], ◌∷◌, ◌++◌, map}
 use Rattle.sim_base.specs.Units.{longest_wait, max_u64}
-use Rattle.sim_base.specs.declared.object.ObjectId.{ObjectId}
+use Rattle.sim_base.specs.declared.alarm.AlarmTarget.{AlarmTarget}
 use Rattle.sim_base.specs.declared.packet.Packet.{Packet}
 use Rattle.sim_base.specs.declared.time.Time.{Time}
 use Rattle.sim_base.specs.Draws.{draw}
@@ -32,10 +32,10 @@ sends packets w = record w { wants = w.wants ++ map Send packets }
 abbrev pub next_serial : Wanted → ℕ
 next_serial w = min (w.serial + 1) max_u64
 
--- an alarm of an object at a moment, with its serial
-abbrev pub wants_alarm : ObjectId → Time → Wanted → ℕ × Wanted
-wants_alarm object due w =
-    (next_serial w, record w { wants = w.wants ++ Alarm object (next_serial w) due ∷ []; serial = next_serial w })
+-- an alarm of a target at a moment, with its serial
+abbrev pub wants_alarm : AlarmTarget → Time → Wanted → ℕ × Wanted
+wants_alarm target due w =
+    (next_serial w, record w { wants = w.wants ++ Alarm target (next_serial w) due ∷ []; serial = next_serial w })
 
 -- a moment later by a length, the last one there is at most
 abbrev pub due_after : Time → Time → Time

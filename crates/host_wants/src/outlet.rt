@@ -3,7 +3,7 @@
 ghost use Rattle.std.specs.Prelude.{◌≡◌, ◌++◌, ◌∷◌, [], OnOk, IfOk};
 ghost use Rattle.host_wants.specs.Wanted as spec;
 
-use sim_base::{Draws, NoMemory, ObjectId, Packet, Time};
+use sim_base::{AlarmTarget, Draws, NoMemory, Packet, Time};
 use std::alloc::Global;
 use std::marker::Model;
 use std::mem;
@@ -12,9 +12,9 @@ use std::mem;
 #[derive(Drop)]
 pub enum Want {
     Send(Packet),
-    /// The object is to be told of this serial at the moment `due`.
+    /// The target is to be told of this serial at the moment `due`.
     Alarm {
-        object: ObjectId,
+        target: AlarmTarget,
         serial: u64,
         due: Time,
     },
@@ -85,14 +85,14 @@ impl Outlet {
         Ok(())
     }
 
-    /// Wants an alarm of an object at a moment, and answers its serial.
-    pub fn alarm(&mut self, object: ObjectId, due: Time) -> Result<u64, NoMemory>
-        ensures { IfOk result (λ serial. (serial, self.new) ≡ spec.wants_alarm object due self.old) }
+    /// Wants an alarm of a target at a moment, and answers its serial.
+    pub fn alarm(&mut self, target: AlarmTarget, due: Time) -> Result<u64, NoMemory>
+        ensures { IfOk result (λ serial. (serial, self.new) ≡ spec.wants_alarm target due self.old) }
     {
         let serial = self.serial.saturating_add(1);
         self.serial = serial;
         self.wants.push(Want::Alarm {
-            object,
+            target,
             serial,
             due,
         })?;

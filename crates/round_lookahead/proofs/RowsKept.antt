@@ -169,7 +169,7 @@ module _ (net : Net) where
   acting (what.Start p) h = starting p h
   acting (what.Go p) h = going p h
   acting (what.Shutdown p) h = shutting p h
-  acting (what.Alarm object serial) h = refl
+  acting (what.Alarm target serial) h = refl
   acting (what.Loop packet) h = handed packet h
   acting what.Up h = refl
   acting what.Down h = coming_down h

@@ -46,7 +46,7 @@ packet_of net number source key (what.Packet packet) rest own away = refl
 packet_of net number source key (what.Start p) rest own away = absurd (let e : (source == number) ≡ true = (Decides-eqb source number).1 own in let f : true ≡ false = sym e ∙ away in cc)
 packet_of net number source key (what.Go p) rest own away = absurd (let e : (source == number) ≡ true = (Decides-eqb source number).1 own in let f : true ≡ false = sym e ∙ away in cc)
 packet_of net number source key (what.Shutdown p) rest own away = absurd (let e : (source == number) ≡ true = (Decides-eqb source number).1 own in let f : true ≡ false = sym e ∙ away in cc)
-packet_of net number source key (what.Alarm object serial) rest own away = absurd (let e : (source == number) ≡ true = (Decides-eqb source number).1 own in let f : true ≡ false = sym e ∙ away in cc)
+packet_of net number source key (what.Alarm target serial) rest own away = absurd (let e : (source == number) ≡ true = (Decides-eqb source number).1 own in let f : true ≡ false = sym e ∙ away in cc)
 packet_of net number source key (what.Loop packet) rest own away = absurd (let e : (source == number) ≡ true = (Decides-eqb source number).1 own in let f : true ≡ false = sym e ∙ away in cc)
 packet_of net number source key what.Up rest own away = absurd (let e : (source == number) ≡ true = (Decides-eqb source number).1 own in let f : true ≡ false = sym e ∙ away in cc)
 packet_of net number source key what.Down rest own away = absurd (let e : (source == number) ≡ true = (Decides-eqb source number).1 own in let f : true ≡ false = sym e ∙ away in cc)
@@ -59,7 +59,7 @@ posted_for net source key (what.Packet packet) rest same more =
 posted_for net source key (what.Start p) rest same more = more
 posted_for net source key (what.Go p) rest same more = more
 posted_for net source key (what.Shutdown p) rest same more = more
-posted_for net source key (what.Alarm object serial) rest same more = more
+posted_for net source key (what.Alarm target serial) rest same more = more
 posted_for net source key (what.Loop packet) rest same more = more
 posted_for net source key what.Up rest same more = more
 posted_for net source key what.Down rest same more = more

@@ -144,5 +144,5 @@ module _ (net : Net) where
   unfolding does_all does_want
   wants_done own [] w wanted h = h
   wants_done own (want.Send p ∷ wants) w wanted h = wants_done own wants (sends net own p w) wanted.1 (sends_wire own p w wanted.0 h)
-  wants_done own (want.Alarm object serial due ∷ wants) w wanted h =
-      wants_done own wants (makes due (what.Alarm object serial) w.0, w.1) wanted.1 (makes_fit w.0 due (what.Alarm object serial) tt h.0, h.1)
+  wants_done own (want.Alarm target serial due ∷ wants) w wanted h =
+      wants_done own wants (makes due (what.Alarm target serial) w.0, w.1) wanted.1 (makes_fit w.0 due (what.Alarm target serial) tt h.0, h.1)

@@ -9,7 +9,7 @@ use Rattle.file_calls.specs.Flags.{has, o_nonblock}
 use Rattle.file_calls.specs.Guest.{getrandom, random_count, words, words_in}
 use Rattle.file_calls.specs.Numbers.{f_getfd, f_getfl, f_setfd, f_setfl, grnd_nonblock, grnd_random}
 use Rattle.file_calls.specs.Scene.{Local, tell_memory}
-use Rattle.file_calls.specs.Times.{at_nanos, clock_gettime, create_asked, first_expiry, old_timer, sets, settime_asked, time_left, timer_number, timer_object, timerfd_settime, with_setting}
+use Rattle.file_calls.specs.Times.{at_nanos, clock_gettime, create_asked, first_expiry, old_timer, sets, settime_asked, time_left, timer_number, timerfd_settime, with_setting}
 use Rattle.file_calls.specs.declared.descriptors.Descriptor.{Descriptor}
 use Rattle.file_calls.specs.declared.files.Ends.{Ends}
 use Rattle.file_calls.specs.declared.task.Shared.{Shared}
@@ -36,6 +36,7 @@ use Rattle.run_fits.proofs.TcpSockets.{alarm_fits}
 use Rattle.run_fits.specs.Bytes.{AreBytes, HasBytes}
 use Rattle.run_fits.specs.Packets.{WantsFit}
 use Rattle.run_fits.specs.Parts.{FilesFit}
+use Rattle.sim_base.specs.declared.alarm.AlarmTarget.TheVariants.{Timer}
 use Rattle.sim_base.specs.Refusals.{or_refuse, refuse_if}
 use Rattle.sim_base.specs.declared.errno.Errno.TheVariants.{Ebadf, Efault, Einval}
 use Rattle.sim_base.specs.declared.time.Time.{Time}
@@ -114,7 +115,7 @@ sets_keep : (now : Time) (k old first interval : ℕ) (shared : Shared) → File
 sets_keep now k old first interval shared h =
     by_test (λ (x : Shared). FilesFit x.files × WantsFit x.outlet) (first == 0) _ _
     (λ e. h)
-    (λ e. (h.0, alarm_fits (timer_object k) (at_nanos first) shared.outlet h.1))
+    (λ e. (h.0, alarm_fits (Timer k) (at_nanos first) shared.outlet h.1))
 
 setting_in : (at : ℕ) (bytes : List ℕ) (memory : Memory) → AreBytes bytes → HasBytes memory → HasBytes (with_setting at bytes memory)
 setting_in at bytes memory are h = by_test HasBytes (at == 0) _ _ (λ e. h) (λ e. filled_in at bytes memory are h)

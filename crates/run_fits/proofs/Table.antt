@@ -1,5 +1,5 @@
 -- the table of system calls, and what else happens at a host
-use Rattle.std.proofs.Common.{Err, IfSome, List, None, Ok, Option, Result, Some, drop, flat_map, nat_lt, not, slice_get, ◌++◌, suc, take, w16, w32, w64, zero, ℕ, ◌*◌, ◌+◌}
+use Rattle.std.proofs.Common.{Err, IfSome, List, None, Ok, Option, Result, Some, drop, flat_map, not, slice_get, ◌++◌, suc, take, w16, w32, w64, zero, ℕ, ◌*◌, ◌+◌}
 use Rattle.std.specs.Int.{to_le_bytes}
 use Rattle.std.specs.List.{AllByRecursion}
 use Rattle.std.specs.Option.{option_flatten}
@@ -20,9 +20,9 @@ use Rattle.run_fits.specs.Packets.{WantsFit}
 use Rattle.run_fits.specs.Parts.{FilesFit, PartsFit, TaskFits}
 use Rattle.run_fits.specs.Sockets.{SocketsFit}
 use Rattle.sim_base.specs.Refusals.{refuse_if}
+use Rattle.sim_base.specs.declared.alarm.AlarmTarget.{AlarmTarget}
+use Rattle.sim_base.specs.declared.alarm.AlarmTarget.TheVariants as alarm_of
 use Rattle.sim_base.specs.declared.errno.Errno.TheVariants.{Efault}
-use Rattle.tcp_laws.proofs.Tests.{by_test}
-use Rattle.sim_base.specs.declared.object.ObjectId.{ObjectId}
 use Rattle.sim_base.specs.declared.packet.Packet.{Packet}
 use Rattle.sim_base.specs.declared.time.Time.{Time}
 use Rattle.host_fds.specs.Descriptors.{limit}
@@ -34,7 +34,6 @@ use Rattle.host_files.specs.declared.file.Object.{Object}
 use Rattle.host_files.specs.declared.file.Object.TheVariants as kind
 use Rattle.host_wants.specs.declared.error.Refusal.{Refusal}
 use Rattle.host_wants.specs.declared.error.Refusal.TheVariants as refusal
-use Rattle.host_sockets.specs.TcpActs.{first_object}
 use Rattle.call_parts.specs.declared.call.Call.{Call}
 use Rattle.call_parts.specs.declared.call.Call.TheVariants as system_call
 use Rattle.call_parts.specs.declared.call.NetworkCall.{NetworkCall}
@@ -51,12 +50,12 @@ use Rattle.host_calls.specs.declared.plan.Plan.{Plan}
 use Rattle.host_calls.specs.declared.plan.Plan.TheVariants as plan
 use Rattle.host_calls.specs.declared.polling.PollPlan.{PollPlan}
 use Rattle.call_parts.specs.Call.{call_of}
-use Rattle.host_calls.specs.Calls.{arg, plain_row, reacts, network_row, asked, done, row, row_of, deadline_object, with_alarm, blocks_by, blocked, all_ended, cleared, answered, scene_at, call_by, call, call_scene}
+use Rattle.host_calls.specs.Calls.{arg, plain_row, reacts, network_row, asked, done, row, row_of, with_alarm, blocks_by, blocked, all_ended, cleared, answered, scene_at, call_by, call, call_scene}
 use Rattle.host_calls.specs.Closing.{ends, closes, close, closed_by, closed_below}
 use Rattle.file_calls.specs.Descriptors.{descriptor}
 use Rattle.host_calls.specs.Epoll.{all_seen, epoll_waits}
 use Rattle.call_parts.specs.Epoll.{event_bytes}
-use Rattle.host_calls.specs.Events.{arrives, timer_number, rung, alarmed, ended_by, ended}
+use Rattle.host_calls.specs.Events.{arrives, alarmed, ended_by, ended}
 use Rattle.file_calls.specs.Files.{reads, writes}
 use Rattle.host_calls.specs.Parts.{PartsRecord, Place, place, place_in, with_place, Scene, local_of, plainly}
 use Rattle.call_parts.specs.Polling.{poll_entries, entry_size}
@@ -64,7 +63,7 @@ use Rattle.host_calls.specs.Polling.{polls, came, told_entries, told_entry}
 use Rattle.file_calls.specs.Scene.{Local}
 use Rattle.host_calls.specs.Sockets.{accepts, sends_by, receives}
 use Rattle.host_calls.specs.Starting.{starts, task_starts}
-use Rattle.file_calls.specs.Times.{first_timer, timer_object, at_nanos, rings_at, next_ring}
+use Rattle.file_calls.specs.Times.{at_nanos, rings_at, next_ring}
 
 -- ---- single rows
 
@@ -143,7 +142,7 @@ polls_fit now p s h =
 -- a call that waits wants an alarm
 alarm_wants : (process : ℕ) (deadline : Option Time) (shared : Shared) → WantsFit shared.outlet → WantsFit (with_alarm process deadline shared).outlet
 alarm_wants process None shared h = h
-alarm_wants process (Some deadline) shared h = alarm_fits (deadline_object process) deadline shared.outlet h
+alarm_wants process (Some deadline) shared h = alarm_fits (alarm_of.Process process) deadline shared.outlet h
 
 alarm_files : (process : ℕ) (deadline : Option Time) (shared : Shared) → FilesFit shared.files → FilesFit (with_alarm process deadline shared).files
 alarm_files process None shared h = h
@@ -272,24 +271,17 @@ arrival_fits now packet h whole fits =
 -- an alarm
 rings_fit : (k : ℕ) (o : Option ℕ) (shared : Shared) → WantsFit shared.outlet → WantsFit (rings_at k o shared).outlet
 rings_fit k None shared h = h
-rings_fit k (Some due) shared h = alarm_fits (timer_object k) (at_nanos due) shared.outlet h
+rings_fit k (Some due) shared h = alarm_fits (alarm_of.Timer k) (at_nanos due) shared.outlet h
 
 rings_files : (k : ℕ) (o : Option ℕ) (shared : Shared) → FilesFit shared.files → FilesFit (rings_at k o shared).files
 rings_files k None shared h = h
 rings_files k (Some due) shared h = h
 
-rung_fits : (now : Time) (object : ObjectId) (serial : ℕ) (h : PartsRecord) → PartsFit h → PartsFit (rung now object serial h)
-rung_fits now object serial h fits =
-    let k = timer_number object in
+pub alarmed_fits : (now : Time) (target : AlarmTarget) (serial : ℕ) (h : PartsRecord) → PartsFit h → PartsFit (alarmed now target serial h)
+alarmed_fits now (alarm_of.Process p) serial h fits = fits
+alarmed_fits now (alarm_of.Timer k) serial h fits =
     let next = next_ring now serial (timer_at k h.shared.files) in
     record { tasks = fits.tasks; files = rings_files k next h.shared fits.files; wants = rings_fit k next h.shared fits.wants; sockets = fits.sockets }
-
-pub alarmed_fits : (now : Time) (object : ObjectId) (serial : ℕ) (h : PartsRecord) → PartsFit h → PartsFit (alarmed now object serial h)
-alarmed_fits now object serial h fits =
-    by_test PartsFit (nat_lt object.number first_timer) _ _
-    (λ e. fits)
-    (λ e. by_test PartsFit (nat_lt object.number first_object) _ _
-    (λ k. rung_fits now object serial h fits)
-    (λ k.
-    let left = alarm_comes_fits now object serial h.sockets h.shared.outlet (fits.sockets, fits.wants) in
-    record { tasks = fits.tasks; files = fits.files; wants = left.1; sockets = left.0 }))
+alarmed_fits now (alarm_of.Socket k) serial h fits =
+    let left = alarm_comes_fits now k serial h.sockets h.shared.outlet (fits.sockets, fits.wants) in
+    record { tasks = fits.tasks; files = fits.files; wants = left.1; sockets = left.0 }

@@ -9,7 +9,7 @@ use Rattle.sock_tcp.specs.connection.Process.{closes, expires, flows, opened, re
 use Rattle.sock_tcp.specs.connection.Tcb.{Turn, changed, Tcb}
 use Rattle.sock_tcp.specs.declared.connection.effects.Shut.{Shut}
 use Rattle.host_sockets.specs.Accepting.{accept_asked, accepted, accepts_at, accepts_in, accepts_of, accepts_tcp, given_up, placed}
-use Rattle.host_sockets.specs.Alarms.{alarm_comes, kept_expires, kept_timer, place_of, socket_expires, timer_expires}
+use Rattle.host_sockets.specs.Alarms.{alarm_comes, kept_expires, kept_timer, socket_expires, timer_expires}
 use Rattle.host_sockets.specs.Arriving.{heard_at, hearer, hears_in, listener_hears, refusal_sent, segment_arrives, segment_at, word_drawn}
 use Rattle.host_sockets.specs.Binding.{bind_asked, bind_begun, binds_tcp, bound_to_use, end_to_use, listen_asked, listen_begun, listen_to, listening, listens_tcp}
 use Rattle.host_sockets.specs.Closing.{closed, closes_in, closes_tcp, unheld}
@@ -18,7 +18,7 @@ use Rattle.host_sockets.specs.ListenerActs.{heard, timer_starts}
 use Rattle.host_sockets.specs.Moving.{bytes_given, may_shut, receives_bytes, receives_taking, recv_asked, send_asked, sends_bytes, sends_taking, shuts_tcp}
 use Rattle.host_sockets.specs.Names.{error_asked, takes_error}
 use Rattle.host_sockets.specs.Sockets.{SocketsRecord, changes_at, changes_in, new_tcp, put_tcp, tcb_in, tcp_ends, tcp_place}
-use Rattle.host_sockets.specs.TcpActs.{Acted, acts_at, acts_in, is_let_go, let_go, object_of, record_acts, starts, turned, turned_in}
+use Rattle.host_sockets.specs.TcpActs.{Acted, acts_at, acts_in, is_let_go, let_go, record_acts, starts, turned, turned_in}
 use Rattle.host_sockets.specs.TcpSocket.{fresh, has_record, with_bound, with_tcb, TcpSocket}
 use Rattle.host_sockets.specs.declared.reply.Reply.{Reply}
 use Rattle.host_sockets.specs.declared.reply.Reply.TheVariants.{Done, Failed}
@@ -37,7 +37,8 @@ use Rattle.sim_base.specs.Addresses.{any, at_free_port, at_port, is_same_ip, lea
 use Rattle.sim_base.specs.Refusals.{or_refuse, ◌>>=◌}
 use Rattle.sim_base.specs.declared.address.Addr.{Addr}
 use Rattle.sim_base.specs.declared.address.Ip.{Ip}
-use Rattle.sim_base.specs.declared.object.ObjectId.{ObjectId}
+use Rattle.sim_base.specs.declared.alarm.AlarmTarget.{AlarmTarget}
+use Rattle.sim_base.specs.declared.alarm.AlarmTarget.TheVariants.{Socket}
 use Rattle.sim_base.specs.declared.packet.Packet.{Packet}
 use Rattle.sim_base.specs.declared.time.Time.{Time}
 use Rattle.sock_tcp.specs.connection.Timer.{timer_of}
@@ -58,9 +59,9 @@ sends_want (p ∷ packets) h = (h.0, sends_want packets h.1)
 pub sends_fit : (packets : List Packet) (w : Wanted) → AreWhole packets → WantsFit w → WantsFit (sends packets w)
 sends_fit packets w whole h = all_append WantFits w.wants (map want.Send packets) h (sends_want packets whole)
 
-pub alarm_fits : (object : ObjectId) (due : Time) (w : Wanted) → WantsFit w → WantsFit (wants_alarm object due w).1
-alarm_fits object due w h =
-    all_append WantFits w.wants (want.Alarm object (next_serial w) due ∷ []) h (tt, tt)
+pub alarm_fits : (target : AlarmTarget) (due : Time) (w : Wanted) → WantsFit w → WantsFit (wants_alarm target due w).1
+alarm_fits target due w h =
+    all_append WantFits w.wants (want.Alarm target (next_serial w) due ∷ []) h (tt, tt)
 
 -- ---- acts on a socket
 
@@ -80,7 +81,7 @@ let_go_fits r s w h = by_test ActedFits (is_let_go r s) _ _ (λ e. ((h.0.0, tt, 
 
 starts_fit : (now : Time) (k : ℕ) (length : Option Time) (s : TcpSocket) (w : Wanted) → SocketWants (s, w) → SocketWants (starts now k length s w)
 starts_fit now k None s w h = h
-starts_fit now k (Some length) s w h = (h.0, alarm_fits (object_of k) (due_after now length) w h.1)
+starts_fit now k (Some length) s w h = (h.0, alarm_fits (Socket k) (due_after now length) w h.1)
 
 turned_fits : (now : Time) (k : ℕ) (t : Turn) (s : TcpSocket) (w : Wanted) → TurnFits t → SocketWants (s, w) → ActedFits (turned now k t s w)
 unfolding turned
@@ -140,7 +141,7 @@ new_tcp_fits t h = put_fits (fresh true) t (tt, tt, tt) h
 
 timer_starts_fit : (now : Time) (k : ℕ) (own other : Addr) (length : Option Time) (timers : List KeptTimer) (w : Wanted) → WantsFit w → WantsFit (timer_starts now k own other length timers w).1
 timer_starts_fit now k own other None timers w h = h
-timer_starts_fit now k own other (Some length) timers w h = alarm_fits (object_of k) (due_after now length) w h
+timer_starts_fit now k own other (Some length) timers w h = alarm_fits (Socket k) (due_after now length) w h
 
 heard_acted : (now : Time) (k : ℕ) (own other : Addr) (h : Heard) (gone : List Tcb) (s : TcpSocket) (w : Wanted) → HeardFits h → SocketWants (s, w) → ActedFits (heard now k own other h gone s w)
 unfolding heard
@@ -350,10 +351,9 @@ timer_expires_fits : (now : Time) (k : ℕ) (found : Option KeptTimer) (s : TcpS
 timer_expires_fits now k None s w h = h
 timer_expires_fits now k (Some timer) s w h = kept_expires_fits now k timer s.listen s w h.0.2 h
 
-pub alarm_comes_fits : (now : Time) (object : ObjectId) (serial : ℕ) (t : SocketsRecord) (w : Wanted) → BothFit (t, w) → BothFit (alarm_comes now object serial t w)
+pub alarm_comes_fits : (now : Time) (k serial : ℕ) (t : SocketsRecord) (w : Wanted) → BothFit (t, w) → BothFit (alarm_comes now k serial t w)
 unfolding alarm_comes
-alarm_comes_fits now object serial t w h =
-    let k = place_of object in
+alarm_comes_fits now k serial t w h =
     acts_fit k (socket_expires now k serial) t w
     (λ s v g. by_test ActedFits (s.serial == serial) _ _
     (λ e. record_fits now k (λ r. expires (begin r)) s v (λ r f. expires_fits (begin r) (begin_fits r f)) g)

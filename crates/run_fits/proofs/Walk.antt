@@ -18,10 +18,10 @@ use Rattle.run_fits.specs.Parts.{PartsFit, TaskFits}
 use Rattle.tcp_laws.proofs.Tests.{by_test}
 use Rattle.net_iface.specs.Lane.{pushed, released}
 use Rattle.sim_base.specs.declared.act.Act.TheVariants.{FullDown}
+use Rattle.sim_base.specs.declared.alarm.AlarmTarget.{AlarmTarget}
 use Rattle.sim_base.specs.declared.event.Event.{Event}
 use Rattle.sim_base.specs.declared.event.What.{What}
 use Rattle.sim_base.specs.declared.event.What.TheVariants as what
-use Rattle.sim_base.specs.declared.object.ObjectId.{ObjectId}
 use Rattle.sim_base.specs.declared.packet.Packet.{Packet}
 use Rattle.sim_base.specs.declared.signal.Signal.{Signal}
 use Rattle.sim_base.specs.declared.signal.Signal.TheVariants.{SigXcpu}
@@ -250,17 +250,17 @@ module _ (net : Net) (lent : NetHasBytes net) where
   unfolding shuts
   shutting p h k = shutting_if p (running_in (slice_get h.processes p)) h k
 
-  ringing : (object : ObjectId) (serial : ℕ) (h : HostRecord) → H h → H (rings net object serial h)
+  ringing : (target : AlarmTarget) (serial : ℕ) (h : HostRecord) → H h → H (rings net target serial h)
   unfolding rings
-  ringing object serial h k =
-      settling (with_parts (alarmed h.link.time object serial h.parts) h) (k.0, alarmed_fits h.link.time object serial h.parts k.1, k.2)
+  ringing target serial h k =
+      settling (with_parts (alarmed h.link.time target serial h.parts) h) (k.0, alarmed_fits h.link.time target serial h.parts k.1, k.2)
 
   acting : (w : What) (h : HostRecord) → WhatFits w → H h → H (acts net w h)
   unfolding acts
   acting (what.Start p) h fits k = starting p h k
   acting (what.Go p) h fits k = going_on p h k
   acting (what.Shutdown p) h fits k = shutting p h k
-  acting (what.Alarm object serial) h fits k = ringing object serial h k
+  acting (what.Alarm target serial) h fits k = ringing target serial h k
   acting (what.Loop packet) h fits k = handed packet h fits k
   acting what.Up h fits k = coming_up h k
   acting what.Down h fits k = coming_down h k

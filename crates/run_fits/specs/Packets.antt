@@ -13,7 +13,7 @@ AreWhole packets = AllByRecursion IsWhole packets
 -- the packets that are wanted to be sent
 abbrev pub WantFits : Want → Type 0
 WantFits (Send p) = IsWhole p
-WantFits (Alarm object serial due) = Unit {0}
+WantFits (Alarm target serial due) = Unit {0}
 
 abbrev pub WantsFit : Wanted → Type 0
 WantsFit w = AllByRecursion WantFits w.wants

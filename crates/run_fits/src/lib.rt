@@ -2,7 +2,7 @@
 #![tactic(auto)]
 
 ghost use Rattle.std.specs.Prelude.{ℕ, List};
-ghost use Rattle.sim_base.specs.declared.object.ObjectId.{ObjectId};
+ghost use Rattle.sim_base.specs.declared.alarm.AlarmTarget.{AlarmTarget};
 ghost use Rattle.sim_base.specs.declared.packet.Packet.{Packet};
 ghost use Rattle.sim_base.specs.declared.time.Time.{Time};
 ghost use Rattle.pcap_text.specs.Laws.{IsWhole};
@@ -40,8 +40,8 @@ pub fn parts_stay_fit()
         → PartsFit h → PartsFit (ended now process h) }
     ensures arrival { (now : Time) (packet : Packet) (h : PartsRecord)
         → IsWhole packet → PartsFit h → PartsFit (arrives now packet h).1 }
-    ensures alarm { (now : Time) (object : ObjectId) (serial : ℕ) (h : PartsRecord)
-        → PartsFit h → PartsFit (alarmed now object serial h) }
+    ensures alarm { (now : Time) (target : AlarmTarget) (serial : ℕ) (h : PartsRecord)
+        → PartsFit h → PartsFit (alarmed now target serial h) }
 {}
 
 /// So in every world that a run reaches each line of the packet log is of a packet whose numbers and bytes

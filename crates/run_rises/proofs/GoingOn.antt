@@ -1,7 +1,7 @@
 -- a history goes on by what happens
 use Rattle.std.proofs.Common.{◌≡◌, ℕ, List, [], ◌++◌, refl, sym, ap, subst, ◌∙◌}
 use Rattle.sim_base.specs.declared.address.Ip.{Ip}
-use Rattle.sim_base.specs.declared.object.ObjectId.{ObjectId}
+use Rattle.sim_base.specs.declared.alarm.AlarmTarget.{AlarmTarget}
 use Rattle.sim_base.specs.declared.packet.Packet.{Packet}
 use Rattle.sim_base.specs.declared.time.Time.{Time}
 use Rattle.guest_mem.specs.Memory.{Memory}
@@ -89,9 +89,9 @@ pub arrival_goes_on : (hosts : List Ip) (own : Ip) (history : HostHistory) (now 
 arrival_goes_on hosts own history now packet h leaves =
     goes_on hosts own history now h (arrives now packet h).1 (arrives_keeps hosts now packet h) leaves
 
-pub alarm_goes_on : (hosts : List Ip) (own : Ip) (history : HostHistory) (now : Time) (object : ObjectId) (serial : ℕ) (h : PartsRecord) → GoesOnTo hosts own history h (alarmed now object serial h)
-alarm_goes_on hosts own history now object serial h leaves =
-    goes_on hosts own history now h (alarmed now object serial h) (alarmed_keeps hosts now object serial h) leaves
+pub alarm_goes_on : (hosts : List Ip) (own : Ip) (history : HostHistory) (now : Time) (target : AlarmTarget) (serial : ℕ) (h : PartsRecord) → GoesOnTo hosts own history h (alarmed now target serial h)
+alarm_goes_on hosts own history now target serial h leaves =
+    goes_on hosts own history now h (alarmed now target serial h) (alarmed_keeps hosts now target serial h) leaves
 
 -- and so do the names of descriptors and the marks
 pub call_holds_on : (known : Known) (own : Ip) (history : HostHistory) (now : Time) (process number : ℕ) (args : List ℕ) (h : PartsRecord) → HoldsOn known.book own history h (call known now process number args h).1
@@ -110,6 +110,6 @@ pub arrival_holds_on : (hosts : List Ip) (own : Ip) (history : HostHistory) (now
 arrival_holds_on hosts own history now packet h =
     holds_on hosts own history now h (arrives now packet h).1 (arrives_keeps hosts now packet h)
 
-pub alarm_holds_on : (hosts : List Ip) (own : Ip) (history : HostHistory) (now : Time) (object : ObjectId) (serial : ℕ) (h : PartsRecord) → HoldsOn hosts own history h (alarmed now object serial h)
-alarm_holds_on hosts own history now object serial h =
-    holds_on hosts own history now h (alarmed now object serial h) (alarmed_keeps hosts now object serial h)
+pub alarm_holds_on : (hosts : List Ip) (own : Ip) (history : HostHistory) (now : Time) (target : AlarmTarget) (serial : ℕ) (h : PartsRecord) → HoldsOn hosts own history h (alarmed now target serial h)
+alarm_holds_on hosts own history now target serial h =
+    holds_on hosts own history now h (alarmed now target serial h) (alarmed_keeps hosts now target serial h)

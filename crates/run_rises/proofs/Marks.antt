@@ -4,8 +4,8 @@ use Rattle.std.specs.FinMap as map
 use Rattle.sim_base.specs.Refusals.{◌>>=◌, or_refuse}
 use Rattle.sim_base.specs.declared.address.Ip.{Ip}
 use Rattle.sim_base.specs.declared.errno.Errno.TheVariants.{Ebadf}
-use Rattle.sim_base.specs.declared.object.ObjectId.{ObjectId}
 use Rattle.sim_base.specs.declared.time.Time.{Time}
+use Rattle.host_fds.specs.declared.file_id.FileId.{FileId}
 use Rattle.host_fds.specs.declared.epoll.Seen.{Seen}
 use Rattle.host_fds.specs.declared.epoll.Watch.{Watch}
 use Rattle.host_fds.specs.declared.rises.Rises.{Rises}
@@ -130,14 +130,14 @@ goes_both first second last a b = record {
 }
 
 -- what is seen of an open descriptor
-abbrev of_file : ObjectId → Option File → Result Descriptor Refusal
+abbrev of_file : FileId → Option File → Result Descriptor Refusal
 of_file id o = ◌>>=◌ {B = Descriptor} (or_refuse o (Errno Ebadf)) (λ f. Ok (record { id = id; file = f }))
 
-seen_open : (now : Time) (fd : ℕ) (o : Option ObjectId) (id : ObjectId) (file : File) (files : FilesState) (sockets : SocketsRecord) → o ≡ Some id → file_at id files ≡ Some file → (seen_by now fd (descriptor_by o files) files sockets).rises ≡ object_rises now file.object files sockets
+seen_open : (now : Time) (fd : ℕ) (o : Option FileId) (id : FileId) (file : File) (files : FilesState) (sockets : SocketsRecord) → o ≡ Some id → file_at id files ≡ Some file → (seen_by now fd (descriptor_by o files) files sockets).rises ≡ object_rises now file.object files sockets
 seen_open now fd None id file files sockets e there = cc
 seen_open now fd (Some jd) id file files sockets e there =
     let same : jd ≡ id = some_same jd id e in
-    by_file (file_at jd files) (subst (λ (i : ObjectId). file_at i files ≡ Some file) (sym same) there)
+    by_file (file_at jd files) (subst (λ (i : FileId). file_at i files ≡ Some file) (sym same) there)
   where
     by_file : (o : Option File) → o ≡ Some file → (seen_by now fd (of_file jd o) files sockets).rises ≡ object_rises now file.object files sockets
     by_file None k = cc
@@ -197,7 +197,7 @@ module _ (hosts : List Ip) (own : Ip) (history more : HostHistory) (now : Time) 
       }
 
   -- one that is made is one
-  new_mark : (id : ObjectId) (file : File) (mark : Rises) → file_at id x.shared.files ≡ Some file → object_rises now file.object x.shared.files x.sockets ≡ mark → KeptLasts (object_alone file.object) → IsMark hosts own more (object_alone file.object) mark
+  new_mark : (id : FileId) (file : File) (mark : Rises) → file_at id x.shared.files ≡ Some file → object_rises now file.object x.shared.files x.sockets ≡ mark → KeptLasts (object_alone file.object) → IsMark hosts own more (object_alone file.object) mark
   new_mark id file mark there e lasts = record {
     before = history;
     moment = now;
@@ -210,15 +210,15 @@ module _ (hosts : List Ip) (own : Ip) (history more : HostHistory) (now : Time) 
     is = sym e ∙ (object_counts hosts own history now file.object x.shared.files x.sockets leaves ∙ alone_counts hosts own history now file.object);
   }
 
-  module _ (marks : MarksHold hosts own history x.tasks x.shared.files) (process k : ℕ) (first last : Task) (w : Watch) (mark : Rises) (jd : ObjectId) (g : File) (at_first : at process x.tasks ≡ Some first) (at_last : at process y.tasks ≡ Some last) (entry : HasEntry k last.epolls w) (marked : w.reported ≡ Some mark) (named : map.get last.table w.fd ≡ Some jd) (there : file_at jd y.shared.files ≡ Some g) where
+  module _ (marks : MarksHold hosts own history x.tasks x.shared.files) (process k : ℕ) (first last : Task) (w : Watch) (mark : Rises) (jd : FileId) (g : File) (at_first : at process x.tasks ≡ Some first) (at_last : at process y.tasks ≡ Some last) (entry : HasEntry k last.epolls w) (marked : w.reported ≡ Some mark) (named : map.get last.table w.fd ≡ Some jd) (there : file_at jd y.shared.files ≡ Some g) where
     -- the descriptor of an entry that was there named an open file
-    opened_before : (v : Watch) → HasEntry k first.epolls v → (id : ObjectId) × ((file : File) × ((map.get first.table v.fd ≡ Some id) × (file_at id x.shared.files ≡ Some file)))
+    opened_before : (v : Watch) → HasEntry k first.epolls v → (id : FileId) × ((file : File) × ((map.get first.table v.fd ≡ Some id) × (file_at id x.shared.files ≡ Some file)))
     opened_before v e =
         let id = some_of (map.get first.table v.fd) (hold.watched process k first v at_first e) in
         let file = some_of (file_at id.0 x.shared.files) (hold.opened process v.fd id.0 (ap (λ (o : Option Task). named_in v.fd o) at_first ∙ id.1)) in
         (id.0, (file.0, (id.1, file.1)))
 
-    one : (id : ObjectId) (file : File) → map.get first.table w.fd ≡ Some id → file_at id x.shared.files ≡ Some file → NamesOne hosts now.nanos x y kept.files kept.sockets id jd file g
+    one : (id : FileId) (file : File) → map.get first.table w.fd ≡ Some id → file_at id x.shared.files ≡ Some file → NamesOne hosts now.nanos x y kept.files kept.sockets id jd file g
     one id file e there_file =
         kept.entries_name hold process k last w at_last entry id jd file g (ap (λ (o : Option Task). named_in w.fd o) at_first ∙ e) (ap (λ (o : Option Task). named_in w.fd o) at_last ∙ named) there_file there
 
@@ -270,7 +270,7 @@ let_go tasks p process task e =
     none_some : None ≡ Some task → ⊥
     none_some e = cc
 
-name_left : (tasks : List (Option Task)) (p process fd : ℕ) (id : ObjectId) → names process fd (slice_set tasks p None) ≡ Some id → names process fd tasks ≡ Some id
+name_left : (tasks : List (Option Task)) (p process fd : ℕ) (id : FileId) → names process fd (slice_set tasks p None) ≡ Some id → names process fd tasks ≡ Some id
 name_left tasks p process fd id e = by_task (at process (slice_set tasks p None)) refl e
   where
     by_task : (o : Option Task) → at process (slice_set tasks p None) ≡ o → named_in fd o ≡ Some id → names process fd tasks ≡ Some id

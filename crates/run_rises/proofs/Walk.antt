@@ -3,10 +3,10 @@ use Rattle.std.proofs.Common.{◌≡◌, ℕ, zero, suc, ◌&&◌, Bool, true, f
 use Rattle.sim_base.specs.Limits.{most_processes}
 use Rattle.sim_base.specs.Packet.{packet_size}
 use Rattle.sim_base.specs.declared.address.Ip.{Ip}
+use Rattle.sim_base.specs.declared.alarm.AlarmTarget.{AlarmTarget}
 use Rattle.sim_base.specs.declared.event.Event.{Event}
 use Rattle.sim_base.specs.declared.event.What.{What}
 use Rattle.sim_base.specs.declared.event.What.TheVariants as what
-use Rattle.sim_base.specs.declared.object.ObjectId.{ObjectId}
 use Rattle.sim_base.specs.declared.packet.Packet.{Packet}
 use Rattle.sim_base.specs.declared.signal.Signal.{Signal}
 use Rattle.sim_base.specs.declared.signal.Signal.TheVariants.{SigXcpu}
@@ -319,18 +319,18 @@ module _ (net : Net) where
   unfolding shuts
   shutting p h = shutting_if p (running_in (slice_get h.processes p)) h
 
-  ringing : (object : ObjectId) (serial : ℕ) (h : HostRecord) → H h (rings net object serial h)
+  ringing : (target : AlarmTarget) (serial : ℕ) (h : HostRecord) → H h (rings net target serial h)
   unfolding rings
-  ringing object serial h =
-      let parts = alarmed h.link.time object serial h.parts in
-      acted h (with_parts parts h) (kept h parts (alarmed_keeps net.known.book h.link.time object serial h.parts) (λ own history. alarm_holds_on net.known.book own history h.link.time object serial h.parts))
+  ringing target serial h =
+      let parts = alarmed h.link.time target serial h.parts in
+      acted h (with_parts parts h) (kept h parts (alarmed_keeps net.known.book h.link.time target serial h.parts) (λ own history. alarm_holds_on net.known.book own history h.link.time target serial h.parts))
 
   acting : (w : What) (h : HostRecord) → H h (acts net w h)
   unfolding acts
   acting (what.Start p) h = starting p h
   acting (what.Go p) h = going p h
   acting (what.Shutdown p) h = shutting p h
-  acting (what.Alarm object serial) h = ringing object serial h
+  acting (what.Alarm target serial) h = ringing target serial h
   acting (what.Loop packet) h = handed packet h
   acting what.Up h = coming_up h
   acting what.Down h = coming_down h

@@ -2,8 +2,8 @@
 use Rattle.std.proofs.Common.{◌≡◌, ℕ, zero, suc, true, List, [], ◌∷◌, length, replicate, Option, Some, None, nat_lt, slice_get, slice_set, refl, sym, subst, ◌∙◌}
 use Rattle.sim_base.specs.declared.address.Ip.{Ip}
 use Rattle.sim_base.specs.declared.event.Event.{Event}
-use Rattle.sim_base.specs.declared.object.ObjectId.{ObjectId}
 use Rattle.sim_base.specs.declared.time.Time.{Time}
+use Rattle.host_fds.specs.declared.file_id.FileId.{FileId}
 use Rattle.host_files.specs.declared.file.File.{File}
 use Rattle.host_files.specs.declared.file.Object.{Object}
 use Rattle.host_files.specs.Files.{no_files, file_at}
@@ -51,7 +51,7 @@ nobody zero process task e = cc
 nobody (suc count) zero task e = cc
 nobody (suc count) (suc process) task e = nobody count process task e
 
-no_name : (count process fd : ℕ) (id : ObjectId) → names process fd (replicate count None) ≡ Some id → ⊥
+no_name : (count process fd : ℕ) (id : FileId) → names process fd (replicate count None) ≡ Some id → ⊥
 no_name count process fd id e = by_task (at process (replicate count None)) refl e
   where
     by_task : (o : Option Task) → at process (replicate count None) ≡ o → named_in fd o ≡ Some id → ⊥
@@ -75,7 +75,7 @@ nothing_holds net own count = record {
   marks = λ process k task w mark id file e entry marked named there. absurd (nobody count process task e);
 }
   where
-    no_file : (id : ObjectId) (file : File) → file_at id no_files ≡ Some file → ⊥
+    no_file : (id : FileId) (file : File) → file_at id no_files ≡ Some file → ⊥
     no_file id file e = cc
 
 row_known : (net : Net) (row : Row) → IsKnown net (opening row).host

@@ -3,8 +3,8 @@
 use Rattle.std.specs.Prelude.{◌≡◌, ℕ, true, List, Option, Some}
 use Rattle.std.specs.FinMap as map
 use Rattle.sim_base.specs.declared.address.Ip.{Ip}
-use Rattle.sim_base.specs.declared.object.ObjectId.{ObjectId}
 use Rattle.sim_base.specs.declared.time.Time.{Time}
+use Rattle.host_fds.specs.declared.file_id.FileId.{FileId}
 use Rattle.host_fds.specs.declared.epoll.Watch.{Watch}
 use Rattle.host_fds.specs.declared.rises.Rises.{Rises}
 use Rattle.host_files.specs.declared.file.File.{File}
@@ -40,7 +40,7 @@ module _ (hosts : List Ip) (own : Ip) where
   -- so is the mark of each entry, of the object that its descriptor names
   abbrev pub MarksHold : HostHistory → List (Option Task) → FilesState → Type 0
   MarksHold history tasks files =
-      (process k : ℕ) (task : Task) (w : Watch) (mark : Rises) (id : ObjectId) (file : File) → at process tasks ≡ Some task → HasEntry k task.epolls w → w.reported ≡ Some mark → map.get task.table w.fd ≡ Some id → file_at id files ≡ Some file → IsMark history (object_alone file.object) mark
+      (process k : ℕ) (task : Task) (w : Watch) (mark : Rises) (id : FileId) (file : File) → at process tasks ≡ Some task → HasEntry k task.epolls w → w.reported ≡ Some mark → map.get task.table w.fd ≡ Some id → file_at id files ≡ Some file → IsMark history (object_alone file.object) mark
 
   -- a history leaves a host's files and sockets, the names of its descriptors hold, and the marks
   pub record Holds (history : HostHistory) (tasks : List (Option Task)) (files : FilesState) (sockets : SocketsRecord) : Type 0 where

@@ -4,7 +4,7 @@
 
 ghost use Rattle.std.specs.Prelude.{◌≡◌, ℕ, false, true, List, Ok, Some, slice_get, take, filter, map};
 ghost use Rattle.sim_base.specs.declared.address.Ip.{Ip};
-ghost use Rattle.sim_base.specs.declared.object.ObjectId.{ObjectId};
+ghost use Rattle.sim_base.specs.declared.alarm.AlarmTarget.{AlarmTarget};
 ghost use Rattle.sim_base.specs.declared.packet.Packet.{Packet};
 ghost use Rattle.sim_base.specs.declared.time.Time.{Time};
 ghost use Rattle.guest_mem.specs.Memory.{Memory};
@@ -58,8 +58,8 @@ pub fn histories_go_on()
         → GoesOnTo hosts own history h (ended now process h) }
     ensures arrival { (hosts : List Ip) (own : Ip) (history : HostHistory) (now : Time) (packet : Packet) (h : PartsRecord)
         → GoesOnTo hosts own history h (arrives now packet h).1 }
-    ensures alarm { (hosts : List Ip) (own : Ip) (history : HostHistory) (now : Time) (object : ObjectId) (serial : ℕ) (h : PartsRecord)
-        → GoesOnTo hosts own history h (alarmed now object serial h) }
+    ensures alarm { (hosts : List Ip) (own : Ip) (history : HostHistory) (now : Time) (target : AlarmTarget) (serial : ℕ) (h : PartsRecord)
+        → GoesOnTo hosts own history h (alarmed now target serial h) }
 {}
 
 /// Wherever files and sockets have a history, an entry of an epoll is due exactly where it is due by the
@@ -106,8 +106,8 @@ pub fn marks_go_on()
         → HoldsOn hosts own history h (ended now process h) }
     ensures arrival { (hosts : List Ip) (own : Ip) (history : HostHistory) (now : Time) (packet : Packet) (h : PartsRecord)
         → HoldsOn hosts own history h (arrives now packet h).1 }
-    ensures alarm { (hosts : List Ip) (own : Ip) (history : HostHistory) (now : Time) (object : ObjectId) (serial : ℕ) (h : PartsRecord)
-        → HoldsOn hosts own history h (alarmed now object serial h) }
+    ensures alarm { (hosts : List Ip) (own : Ip) (history : HostHistory) (now : Time) (target : AlarmTarget) (serial : ℕ) (h : PartsRecord)
+        → HoldsOn hosts own history h (alarmed now target serial h) }
 {}
 
 /// So an entry of an epoll that is told by edges, and was told before, is due exactly where it asks for a bit

@@ -65,7 +65,7 @@ FitsSent net own (what.Loop packet) = Loops own packet
 FitsSent net own (what.Start p) = Unit {0}
 FitsSent net own (what.Go p) = Unit {0}
 FitsSent net own (what.Shutdown p) = Unit {0}
-FitsSent net own (what.Alarm object serial) = Unit {0}
+FitsSent net own (what.Alarm target serial) = Unit {0}
 FitsSent net own what.Up = Unit {0}
 FitsSent net own what.Down = Unit {0}
 
@@ -249,8 +249,8 @@ module _ (net : Net) (own : Ip) (n : ℕ) (cause : What) where
     all_done [] v outside each h = h
     all_done (wanted.Send packet ∷ wants) v outside each h =
         all_done wants (sends net own packet v) outside each.1 (sent packet v outside each.0 h)
-    all_done (wanted.Alarm object serial due ∷ wants) v outside each h =
-        all_done wants (makes due (what.Alarm object serial) v.0, v.1) outside each (home_makes due (what.Alarm object serial) v.0 tt h.0, h.1)
+    all_done (wanted.Alarm target serial due ∷ wants) v outside each h =
+        all_done wants (makes due (what.Alarm target serial) v.0, v.1) outside each (home_makes due (what.Alarm target serial) v.0 tt h.0, h.1)
 
   pub home_up_comes : (v : Wire) → G v.0 → HomeWire v.1.wants (up_comes net v)
   unfolding up_comes

@@ -8,10 +8,10 @@ use Rattle.sim_base.specs.Addresses.{loopback, is_same_ip}
 use Rattle.sim_base.specs.declared.act.Act.{Act}
 use Rattle.sim_base.specs.declared.act.Act.TheVariants.{Recv, SockFull, FullDown}
 use Rattle.sim_base.specs.declared.address.Ip.{Ip}
+use Rattle.sim_base.specs.declared.alarm.AlarmTarget.{AlarmTarget}
 use Rattle.sim_base.specs.declared.event.Event.{Event}
 use Rattle.sim_base.specs.declared.event.What.{What}
 use Rattle.sim_base.specs.declared.event.What.TheVariants as what
-use Rattle.sim_base.specs.declared.object.ObjectId.{ObjectId}
 use Rattle.sim_base.specs.declared.packet.Load.{Load}
 use Rattle.sim_base.specs.declared.packet.Load.TheVariants.{Udp, Tcp}
 use Rattle.sim_base.specs.declared.packet.Packet.{Packet}
@@ -332,11 +332,11 @@ module _ (net : Net) (own : Ip) (n : ℕ) (cause : What) (outside : is_same_ip o
   unfolding shuts
   shutting p h k = shutting_if p (running_in (slice_get h.processes p)) h k
 
-  ringing : (object : ObjectId) (serial : ℕ) (h : HostRecord) → K h → K (rings net object serial h)
+  ringing : (target : AlarmTarget) (serial : ℕ) (h : HostRecord) → K h → K (rings net target serial h)
   unfolding rings
-  ringing object serial h k =
-      let parts = alarmed h.link.time object serial h.parts in
-      settled (with_parts parts h) (parted h parts (alarmed_moves net.known.book [] h.link.time object serial h.parts) k)
+  ringing target serial h k =
+      let parts = alarmed h.link.time target serial h.parts in
+      settled (with_parts parts h) (parted h parts (alarmed_moves net.known.book [] h.link.time target serial h.parts) k)
 
   -- ---- the end of a firing
 
@@ -368,7 +368,7 @@ module _ (net : Net) (own : Ip) (n : ℕ) (cause : What) (outside : is_same_ip o
   acting (what.Start p) h same fits k = starting p h k
   acting (what.Go p) h same fits k = going p h k
   acting (what.Shutdown p) h same fits k = shutting p h k
-  acting (what.Alarm object serial) h same fits k = ringing object serial h k
+  acting (what.Alarm target serial) h same fits k = ringing target serial h k
   acting (what.Loop packet) h same fits k =
       handed packet h (record { ends = record { home = fits.to; inside = λ e. fits.from }; tells = loops_loopback own packet fits ∙ sym same }) k
   acting what.Up h same fits k = coming_up h k

@@ -87,7 +87,7 @@ FitsEvent net rows source (what.Loop packet) = (row : Row) → slice_get rows so
 FitsEvent net rows source (what.Start p) = Unit {0}
 FitsEvent net rows source (what.Go p) = Unit {0}
 FitsEvent net rows source (what.Shutdown p) = Unit {0}
-FitsEvent net rows source (what.Alarm object serial) = Unit {0}
+FitsEvent net rows source (what.Alarm target serial) = Unit {0}
 FitsEvent net rows source what.Up = Unit {0}
 FitsEvent net rows source what.Down = Unit {0}
 
@@ -164,7 +164,7 @@ comes_home net rows source (what.Loop packet) row are at fits = fits row at
 comes_home net rows source (what.Start q) row are at fits = tt
 comes_home net rows source (what.Go q) row are at fits = tt
 comes_home net rows source (what.Shutdown q) row are at fits = tt
-comes_home net rows source (what.Alarm object serial) row are at fits = tt
+comes_home net rows source (what.Alarm target serial) row are at fits = tt
 comes_home net rows source what.Up row are at fits = tt
 comes_home net rows source what.Down row are at fits = tt
 
@@ -178,7 +178,7 @@ sent_fits net rows i source (what.Loop packet) row at same fits =
 sent_fits net rows i source (what.Start p) row at same fits = tt
 sent_fits net rows i source (what.Go p) row at same fits = tt
 sent_fits net rows i source (what.Shutdown p) row at same fits = tt
-sent_fits net rows i source (what.Alarm object serial) row at same fits = tt
+sent_fits net rows i source (what.Alarm target serial) row at same fits = tt
 sent_fits net rows i source what.Up row at same fits = tt
 sent_fits net rows i source what.Down row at same fits = tt
 
@@ -188,7 +188,7 @@ silent_fits net rows source (what.Loop packet) f = absurd (f packet refl)
 silent_fits net rows source (what.Start p) f = tt
 silent_fits net rows source (what.Go p) f = tt
 silent_fits net rows source (what.Shutdown p) f = tt
-silent_fits net rows source (what.Alarm object serial) f = tt
+silent_fits net rows source (what.Alarm target serial) f = tt
 silent_fits net rows source what.Up f = tt
 silent_fits net rows source what.Down f = tt
 

@@ -122,7 +122,7 @@ module _ (net : Net) (scope : Addr → Addr → Bool) (own : Ip) (n : ℕ) (othe
   each_wanted [] S f = tt
   each_wanted (wanted.Send packet ∷ wants) S f =
       (f packet (Contains_here packet (filter_map packet_in wants)), each_wanted wants S (λ p c. f p (Contains_there packet p (filter_map packet_in wants) c)))
-  each_wanted (wanted.Alarm object serial due ∷ wants) S f = (tt, each_wanted wants S f)
+  each_wanted (wanted.Alarm target serial due ∷ wants) S f = (tt, each_wanted wants S f)
 
   pub wire_moves : (h : HostRecord) (v : Wire) (ws : List Want) → ((p : Packet) → Contains (filter_map packet_in ws) p → Contains (packets_of h.parts.shared.outlet) p) → IsGood own n h → ((S : Packet → Type 0) → Carries S own n h.link → ((p : Packet) → Contains (packets_of h.parts.shared.outlet) p → S p) → Wired net S own n ws v) → H h (with_wire v h)
   wire_moves h v ws wanted_before good keeps =

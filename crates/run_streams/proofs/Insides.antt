@@ -93,7 +93,7 @@ RoamsIn (what.Loop packet) = Unit {0}
 RoamsIn (what.Start p) = Unit {0}
 RoamsIn (what.Go p) = Unit {0}
 RoamsIn (what.Shutdown p) = Unit {0}
-RoamsIn (what.Alarm object serial) = Unit {0}
+RoamsIn (what.Alarm target serial) = Unit {0}
 RoamsIn what.Up = Unit {0}
 RoamsIn what.Down = Unit {0}
 
@@ -139,7 +139,7 @@ roams_here net i k own (what.Loop packet) p apart fits roams here is = absurd (a
 roams_here net i k own (what.Start q) p apart fits roams here is = cc
 roams_here net i k own (what.Go q) p apart fits roams here is = cc
 roams_here net i k own (what.Shutdown q) p apart fits roams here is = cc
-roams_here net i k own (what.Alarm object serial) p apart fits roams here is = cc
+roams_here net i k own (what.Alarm target serial) p apart fits roams here is = cc
 roams_here net i k own what.Up p apart fits roams here is = cc
 roams_here net i k own what.Down p apart fits roams here is = cc
 
@@ -234,7 +234,7 @@ sent_roams own (what.Loop packet) f h = tt
 sent_roams own (what.Start p) f h = tt
 sent_roams own (what.Go p) f h = tt
 sent_roams own (what.Shutdown p) f h = tt
-sent_roams own (what.Alarm object serial) f h = tt
+sent_roams own (what.Alarm target serial) f h = tt
 sent_roams own what.Up f h = tt
 sent_roams own what.Down f h = tt
 
@@ -341,7 +341,7 @@ silent_roams (what.Loop packet) f = tt
 silent_roams (what.Start p) f = tt
 silent_roams (what.Go p) f = tt
 silent_roams (what.Shutdown p) f = tt
-silent_roams (what.Alarm object serial) f = tt
+silent_roams (what.Alarm target serial) f = tt
 silent_roams what.Up f = tt
 silent_roams what.Down f = tt
 

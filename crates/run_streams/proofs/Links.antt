@@ -41,7 +41,7 @@ FitsMade S own (what.Loop packet) = S packet
 FitsMade S own (what.Start p) = Unit {0}
 FitsMade S own (what.Go p) = Unit {0}
 FitsMade S own (what.Shutdown p) = Unit {0}
-FitsMade S own (what.Alarm object serial) = Unit {0}
+FitsMade S own (what.Alarm target serial) = Unit {0}
 FitsMade S own what.Up = Unit {0}
 FitsMade S own what.Down = Unit {0}
 
@@ -65,7 +65,7 @@ made_carries S own (what.Loop packet) p h e = let same : packet ≡ p = cc in su
 made_carries S own (what.Start k) p h e = cc
 made_carries S own (what.Go k) p h e = cc
 made_carries S own (what.Shutdown k) p h e = cc
-made_carries S own (what.Alarm object serial) p h e = cc
+made_carries S own (what.Alarm target serial) p h e = cc
 made_carries S own what.Up p h e = cc
 made_carries S own what.Down p h e = cc
 
@@ -75,7 +75,7 @@ made_as S T own (what.Loop packet) f h = f packet refl
 made_as S T own (what.Start k) f h = tt
 made_as S T own (what.Go k) f h = tt
 made_as S T own (what.Shutdown k) f h = tt
-made_as S T own (what.Alarm object serial) f h = tt
+made_as S T own (what.Alarm target serial) f h = tt
 made_as S T own what.Up f h = tt
 made_as S T own what.Down f h = tt
 
@@ -222,15 +222,15 @@ module _ (net : Net) (S : Packet → Type 0) (own : Ip) (n : ℕ) where
   -- what is wanted is done
   abbrev pub FitsWant : Want → Type 0
   FitsWant (wanted.Send packet) = S packet
-  FitsWant (wanted.Alarm object serial due) = Unit {0}
+  FitsWant (wanted.Alarm target serial due) = Unit {0}
 
   all_done : (ws : List Want) (wants : List Want) (v : Wire) → Every FitsWant wants → Wired ws v → Wired ws (does_all net own wants v)
   unfolding does_all does_want
   all_done ws [] v each h = h
   all_done ws (wanted.Send packet ∷ wants) v each h = all_done ws wants (sends net own packet v) each.1 (sent ws packet v each.0 h)
-  all_done ws (wanted.Alarm object serial due ∷ wants) v each h =
-      all_done ws wants (makes due (what.Alarm object serial) v.0, v.1) each.1
-      (record { link = carries_makes due (what.Alarm object serial) v.0 tt h.link; quiet = h.quiet })
+  all_done ws (wanted.Alarm target serial due ∷ wants) v each h =
+      all_done ws wants (makes due (what.Alarm target serial) v.0, v.1) each.1
+      (record { link = carries_makes due (what.Alarm target serial) v.0 tt h.link; quiet = h.quiet })
 
   pub wants_done : (v : Wire) → Every FitsWant v.1.wants → C v.0 → Wired [] (does_wants net own v)
   unfolding does_wants

@@ -6,10 +6,10 @@ use Rattle.sim_base.specs.Packet.{packet_size}
 use Rattle.sim_base.specs.declared.act.Act.TheVariants.{FullDown}
 use Rattle.sim_base.specs.declared.address.Ip.{Ip}
 use Rattle.sim_base.specs.declared.address.Addr.{Addr}
+use Rattle.sim_base.specs.declared.alarm.AlarmTarget.{AlarmTarget}
 use Rattle.sim_base.specs.declared.event.Event.{Event}
 use Rattle.sim_base.specs.declared.event.What.{What}
 use Rattle.sim_base.specs.declared.event.What.TheVariants as what
-use Rattle.sim_base.specs.declared.object.ObjectId.{ObjectId}
 use Rattle.sim_base.specs.declared.packet.Packet.{Packet}
 use Rattle.sim_base.specs.declared.signal.Signal.{Signal}
 use Rattle.sim_base.specs.declared.signal.Signal.TheVariants.{SigXcpu}
@@ -216,12 +216,12 @@ module _ (net : Net) (scope : Addr → Addr → Bool) (own : Ip) (n : ℕ) (othe
   unfolding shuts
   shutting p h good = shutting_if p (running_in (slice_get h.processes p)) h good
 
-  ringing : (object : ObjectId) (serial : ℕ) (h : HostRecord) → Good h → H h (rings net object serial h)
+  ringing : (target : AlarmTarget) (serial : ℕ) (h : HostRecord) → Good h → H h (rings net target serial h)
   unfolding rings
-  ringing object serial h good =
-      let parts = alarmed h.link.time object serial h.parts in
+  ringing target serial h good =
+      let parts = alarmed h.link.time target serial h.parts in
       then h (with_parts parts h) (settles net (with_parts parts h))
-      (parts_move net scope own n others flying h parts good (alarmed_moves net.known.book (flying ++ link_packets h.link) h.link.time object serial h.parts))
+      (parts_move net scope own n others flying h parts good (alarmed_moves net.known.book (flying ++ link_packets h.link) h.link.time target serial h.parts))
       (λ next. settles_so (with_parts parts h) next)
 
   -- ---- the end of a firing
@@ -332,7 +332,7 @@ module _ (net : Net) (scope : Addr → Addr → Bool) (own : Ip) (n : ℕ) (othe
   acting (what.Start p) h f good = starting net scope own n others flying p h good
   acting (what.Go p) h f good = going net scope own n others flying p h good
   acting (what.Shutdown p) h f good = shutting net scope own n others flying p h good
-  acting (what.Alarm object serial) h f good = ringing net scope own n others flying object serial h good
+  acting (what.Alarm target serial) h f good = ringing net scope own n others flying target serial h good
   acting (what.Loop packet) h f good = handed net scope own n others flying packet h (f packet refl) good
   acting what.Up h f good = coming_up net scope own n others flying h good
   acting what.Down h f good = coming_down h good

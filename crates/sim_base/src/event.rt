@@ -1,8 +1,8 @@
 //! Events, and packets on their way to another host.
 
+use crate::alarm::AlarmTarget;
 use crate::host::HostId;
 use crate::key::Key;
-use crate::object::ObjectId;
 use crate::packet::Packet;
 
 /// What an event does. A process is named by its place in its host's list, from 0.
@@ -16,7 +16,7 @@ pub enum What {
     Shutdown(u32),
     /// A deadline of a blocked call, of a timer or of a connection has come. A stale serial does
     /// nothing.
-    Alarm { object: ObjectId, serial: u64 },
+    Alarm { target: AlarmTarget, serial: u64 },
     /// A packet to an address of the host itself arrives.
     Loop(Packet),
     /// The lane towards the network releases packets.

@@ -4,6 +4,7 @@
 
 mod act;
 mod address;
+mod alarm;
 mod around;
 mod book;
 mod bytes;
@@ -15,7 +16,6 @@ mod host;
 mod key;
 mod limits;
 mod memory;
-mod object;
 mod packet;
 mod poll;
 mod ports;
@@ -26,6 +26,7 @@ mod time;
 
 pub use act::Act;
 pub use address::{Addr, Ip};
+pub use alarm::AlarmTarget;
 pub use around::Around;
 pub use book::Book;
 pub use bytes::Bytes;
@@ -37,7 +38,6 @@ pub use host::HostId;
 pub use key::{Key, Kind};
 pub use limits::MOST_PROCESSES;
 pub use memory::NoMemory;
-pub use object::ObjectId;
 pub use packet::{ACK, FIN, Load, Packet, RST, SYN};
 pub use poll::{POLLERR, POLLHUP, POLLIN, POLLNVAL, POLLOUT, POLLRDHUP};
 pub use ports::{at_free_port, is_taken, least_free_port, with_port};

@@ -159,7 +159,7 @@ by_binding P bu cu su bt lt others (shut_tcp k how) = others (shut_tcp k how) tt
 by_binding P bu cu su bt lt others (take_error k) = others (take_error k) tt
 by_binding P bu cu su bt lt others (close_tcp k) = others (close_tcp k) tt
 by_binding P bu cu su bt lt others (arrival p) = others (arrival p) tt
-by_binding P bu cu su bt lt others (alarm object serial) = others (alarm object serial) tt
+by_binding P bu cu su bt lt others (alarm k serial) = others (alarm k serial) tt
 by_binding P bu cu su bt lt others (elsewhere w) = others (elsewhere w) tt
 
 pub acted_kept : (hosts : List Ip) (now : Time) (act : SocketsAct) (t : SocketsRecord) (w : Wanted) → BindsNone act → Kept t (sockets_acted hosts now act t w).0
@@ -182,7 +182,7 @@ acted_kept hosts now (shut_tcp k how) t w b = left_kept (shuts_tcp now k how t w
 acted_kept hosts now (take_error k) t w b = left_kept (takes_error now k t w) t w (error_keeps now k t w (error_asked k t))
 acted_kept hosts now (close_tcp k) t w b = closes_kept now k t w
 acted_kept hosts now (arrival p) t w b = arrives_kept p.load now p t w
-acted_kept hosts now (alarm object serial) t w b = alarm_kept now object serial t w
+acted_kept hosts now (alarm k serial) t w b = alarm_kept now k serial t w
 acted_kept hosts now (elsewhere after) t w b = kept_all t
 
 -- each act

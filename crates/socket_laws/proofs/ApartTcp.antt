@@ -3,7 +3,6 @@ use Rattle.std.proofs.Common.{◌≡◌, ℕ, ◌==◌, List, [], ◌∷◌, Boo
 use Rattle.std.specs.Prelude.{ℤ}
 use Rattle.sim_base.specs.declared.address.Addr.{Addr}
 use Rattle.sim_base.specs.declared.errno.Errno.TheVariants.{Ebadf, Eaddrinuse, Eaddrnotavail}
-use Rattle.sim_base.specs.declared.object.ObjectId.{ObjectId}
 use Rattle.sim_base.specs.declared.time.Time.{Time}
 use Rattle.sim_base.specs.Addresses.{any, is_taken, meets, with_port, at_free_port}
 use Rattle.sim_base.specs.Refusals.{◌>>=◌, ◌>>◌, refuse_if, or_refuse}
@@ -21,7 +20,7 @@ use Rattle.host_sockets.specs.Sockets.{SocketsRecord, changes_at, changes_in, tc
 use Rattle.host_sockets.specs.TcpActs.{Acted, unacted, is_let_go, fresh_again, let_go, starts, turned, turned_in, record_acts, acts_in, acts_at}
 use Rattle.host_sockets.specs.ListenerActs.{heard}
 use Rattle.host_sockets.specs.Accepting.{given_up, accepted, placed}
-use Rattle.host_sockets.specs.Alarms.{kept_timer, kept_expires, timer_expires, socket_expires, place_of, alarm_comes}
+use Rattle.host_sockets.specs.Alarms.{kept_timer, kept_expires, timer_expires, socket_expires, alarm_comes}
 use Rattle.host_sockets.specs.Binding.{bind_begun, bind_asked, end_to_use, listening, listen_begun, listen_asked}
 use Rattle.host_sockets.specs.Closing.{unheld, closes_in, closed, closes_tcp}
 use Rattle.host_sockets.specs.Udp.{local_in}
@@ -118,10 +117,9 @@ either_as : (b : Bool) (s : TcpSocket) (x y : Acted) → AsBefore s x.socket →
 either_as true s x y hx hy = hx
 either_as false s x y hx hy = hy
 
-pub alarm_kept : (now : Time) (object : ObjectId) (serial : ℕ) (t : SocketsRecord) (w : Wanted) → Kept t (alarm_comes now object serial t w).0
+pub alarm_kept : (now : Time) (k serial : ℕ) (t : SocketsRecord) (w : Wanted) → Kept t (alarm_comes now k serial t w).0
 unfolding alarm_comes
-alarm_kept now object serial t w =
-    let k = place_of object in
+alarm_kept now k serial t w =
     acts_kept k (socket_expires now k serial)
     (λ s v. either_as (s.serial == serial) s _ _ (record_as now k _ s v) (timer_expires_as now k (kept_timer serial s.timers) s v)) t w
 

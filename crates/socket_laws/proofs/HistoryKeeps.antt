@@ -25,7 +25,6 @@ use Rattle.host_sockets.specs.Names.{error_asked, takes_error}
 use Rattle.host_sockets.specs.Closing.{closed, closes_in, closes_tcp, unheld}
 use Rattle.socket_laws.specs.Histories.{SocketsAct, left_by, sockets_acted, sockets_after, sockets_of}
 use Rattle.std.specs.List.{position}
-use Rattle.sim_base.specs.declared.object.ObjectId.{ObjectId}
 use Rattle.sim_base.specs.declared.packet.Load.{Load}
 use Rattle.sim_base.specs.declared.packet.Load.TheVariants.{Tcp, Udp}
 use Rattle.sim_base.specs.declared.packet.Packet.{Packet}
@@ -35,7 +34,7 @@ use Rattle.host_sockets.specs.declared.tcp_sock.KeptTimer.{KeptTimer}
 use Rattle.sock_tcp.specs.listener.Dropped.{dropped}
 use Rattle.host_sockets.specs.ListenerActs.{heard}
 use Rattle.host_sockets.specs.Arriving.{arrives_by, datagram_arrives, datagram_at, datagram_in, heard_at, hears_in, listener_hears, segment_arrives, segment_at, hearer, takes_in, word_drawn}
-use Rattle.host_sockets.specs.Alarms.{alarm_comes, kept_expires, kept_timer, place_of, socket_expires, timer_expires}
+use Rattle.host_sockets.specs.Alarms.{alarm_comes, kept_expires, kept_timer, socket_expires, timer_expires}
 use Rattle.socket_laws.specs.Histories.SocketsAct.{accept_tcp, alarm, arrival, bind_tcp, bind_udp, close_tcp, close_udp, connect_again, connect_tcp, connect_udp, elsewhere, listen_tcp, make_tcp, make_udp, recv_tcp, recv_udp, send_tcp, send_udp, shut_tcp, take_error}
 use Rattle.sock_tcp.specs.connection.Timer.{timer_of}
 use Rattle.socket_laws.specs.Waiting.{after_accept}
@@ -247,10 +246,10 @@ socket_keeps now k serial s w h =
     by_test (λ (a : Acted). KeepsIn a.socket.listen) (s.serial == serial) _ _
     (λ e. record_keeps_in now k (λ r. expires (begin r)) s.tcb s w h) (λ e. kept_keeps now k (kept_timer serial s.timers) s w h)
 
-alarm_keeps : (now : Time) (object : ObjectId) (serial : ℕ) (t : SocketsRecord) (w : Wanted) → Rests t → Rests (alarm_comes now object serial t w).0
+alarm_keeps : (now : Time) (k serial : ℕ) (t : SocketsRecord) (w : Wanted) → Rests t → Rests (alarm_comes now k serial t w).0
 unfolding alarm_comes
-alarm_keeps now object serial t w h =
-    keep_at (place_of object) (socket_expires now (place_of object) serial) t w (λ s keeps. socket_keeps now (place_of object) serial s w keeps) h
+alarm_keeps now k serial t w h =
+    keep_at k (socket_expires now k serial) t w (λ s keeps. socket_keeps now k serial s w keeps) h
 
 hearing_keeps : (now : Time) (p : Packet) (k : ℕ) (o : Option Listen) (s : TcpSocket) (w : Wanted) → KeepsIn o → KeepsIn s.listen → KeepsIn (hears_in now p k o s w).socket.listen
 hearing_keeps now p k None s w h keeps = keeps
@@ -306,7 +305,7 @@ acted_keeps hosts now (shut_tcp k how) t w h = shut_keeps now k how t w h
 acted_keeps hosts now (take_error k) t w h = error_keeps now k t w h
 acted_keeps hosts now (close_tcp k) t w h = close_keeps now k t w h
 acted_keeps hosts now (arrival p) t w h = load_keeps p.load now p t w h
-acted_keeps hosts now (alarm object serial) t w h = alarm_keeps now object serial t w h
+acted_keeps hosts now (alarm k serial) t w h = alarm_keeps now k serial t w h
 acted_keeps hosts now (elsewhere after) t w h = h
 
 after_keeps : (hosts : List Ip) (acts : List (Time × SocketsAct)) (t : SocketsRecord) (w : Wanted) → Rests t → Rests (sockets_after hosts acts (t, w)).0

@@ -3,7 +3,6 @@ use Rattle.std.proofs.Common.{◌≡◌, ℕ, ◌+◌, ◌≤◌, ◌==◌, List
 use Rattle.std.specs.List.{position}
 use Rattle.sim_base.specs.declared.address.Ip.{Ip}
 use Rattle.sim_base.specs.declared.address.Addr.{Addr}
-use Rattle.sim_base.specs.declared.object.ObjectId.{ObjectId}
 use Rattle.sim_base.specs.declared.packet.Load.{Load}
 use Rattle.sim_base.specs.declared.packet.Load.TheVariants.{Udp, Tcp}
 use Rattle.sim_base.specs.declared.packet.Packet.{Packet}
@@ -23,7 +22,7 @@ use Rattle.host_sockets.specs.TcpActs.{Acted, acts_at}
 use Rattle.sock_tcp.specs.listener.Dropped.{dropped}
 use Rattle.host_sockets.specs.Udp.{udp_in, new_udp, binds_udp, connects_udp, sends_udp, receives_udp, closes_udp}
 use Rattle.host_sockets.specs.Arriving.{takes_in, datagram_in, datagram_at, datagram_arrives, word_drawn, hears_in, listener_hears, asked_listener, or_place, heard_at, segment_at, segment_arrives, arrives_by}
-use Rattle.host_sockets.specs.Alarms.{kept_timer, kept_expires, timer_expires, socket_expires, place_of, alarm_comes}
+use Rattle.host_sockets.specs.Alarms.{kept_timer, kept_expires, timer_expires, socket_expires, alarm_comes}
 use Rattle.socket_laws.specs.Pairs.{kept_in, live_of, live_records}
 use Rattle.socket_laws.specs.Histories.{SocketsAct, sockets_acted, sockets_after, sockets_of}
 use Rattle.socket_laws.specs.Histories.SocketsAct.{make_udp, bind_udp, connect_udp, send_udp, recv_udp, close_udp, make_tcp, bind_tcp, listen_tcp, accept_tcp, connect_tcp, connect_again, send_tcp, recv_tcp, shut_tcp, take_error, close_tcp, arrival, alarm, elsewhere}
@@ -51,10 +50,10 @@ alarm_lowers own other now k serial s w =
     (λ e. record_lowers own other now k (λ r. expires (begin r)) s w expiry_stays)
     (λ e. kept_lowers own other now k (kept_timer serial s.timers) s w)
 
-alarm_single : (own other : Addr) (now : Time) (object : ObjectId) (serial : ℕ) (t : SocketsRecord) (w : Wanted) → Single own other t → Single own other (alarm_comes now object serial t w).0
+alarm_single : (own other : Addr) (now : Time) (k serial : ℕ) (t : SocketsRecord) (w : Wanted) → Single own other t → Single own other (alarm_comes now k serial t w).0
 unfolding alarm_comes
-alarm_single own other now object serial t w h =
-    single_at own other (place_of object) (socket_expires now (place_of object) serial) t w (λ s. alarm_lowers own other now (place_of object) serial s w) h
+alarm_single own other now k serial t w h =
+    single_at own other k (socket_expires now k serial) t w (λ s. alarm_lowers own other now k serial s w) h
 
 -- a segment at a listener
 hears_adds : (own other : Addr) (now : Time) (p : Packet) (k : ℕ) (o : Option Listen) (s : TcpSocket) (w : Wanted) (n : ℕ) → s.listen ≡ o → ((l : Listen) → o ≡ Some l → is_kept p.to p.from l ≡ false → one_if (Matches p own other) ≤ n) → live_of own other (hears_in now p k o s w).socket ≤ live_of own other s + n
@@ -147,7 +146,7 @@ acted_single own other hosts now (shut_tcp k how) t w h = shut_single own other 
 acted_single own other hosts now (take_error k) t w h = error_single own other now k t w h
 acted_single own other hosts now (close_tcp k) t w h = close_single own other now k t w h
 acted_single own other hosts now (arrival p) t w h = load_single own other p.load now p t w h
-acted_single own other hosts now (alarm object serial) t w h = alarm_single own other now object serial t w h
+acted_single own other hosts now (alarm k serial) t w h = alarm_single own other now k serial t w h
 acted_single own other hosts now (elsewhere after) t w h = h
 
 after_single : (own other : Addr) (hosts : List Ip) (acts : List (Time × SocketsAct)) (t : SocketsRecord) (w : Wanted) → Single own other t → Single own other (sockets_after hosts acts (t, w)).0

@@ -170,7 +170,7 @@ acted_listens hosts now (shut_tcp k how) t w h = left_listens (shuts_tcp now k h
 acted_listens hosts now (take_error k) t w h = left_listens (takes_error now k t w) t w h (error_listens now k t w (error_asked k t) h)
 acted_listens hosts now (close_tcp k) t w h = closes_all now k t w h
 acted_listens hosts now (arrival p) t w h = arrives_listen p.load now p t w h
-acted_listens hosts now (alarm object serial) t w h = alarm_all now object serial t w h
+acted_listens hosts now (alarm k serial) t w h = alarm_all now k serial t w h
 acted_listens hosts now (elsewhere after) t w h = h
 
 listen_after : (hosts : List Ip) (acts : List (Time × SocketsAct)) (t : SocketsRecord) (w : Wanted) → Listening t → Listening (sockets_after hosts acts (t, w)).0

@@ -3,7 +3,6 @@ use Rattle.std.proofs.Common.{◌≡◌, ℕ, zero, suc, ◌==◌, List, [], ◌
 use Rattle.std.specs.Prelude.{ℤ}
 use Rattle.sim_base.specs.declared.address.Addr.{Addr}
 use Rattle.sim_base.specs.declared.errno.Errno.TheVariants.{Ebadf, Einval, Eaddrnotavail}
-use Rattle.sim_base.specs.declared.object.ObjectId.{ObjectId}
 use Rattle.sim_base.specs.declared.packet.Packet.{Packet}
 use Rattle.sim_base.specs.declared.time.Time.{Time}
 use Rattle.sim_base.specs.Addresses.{any, at_free_port}
@@ -27,7 +26,7 @@ use Rattle.host_sockets.specs.Sockets.{SocketsRecord, put_at, changes_at, change
 use Rattle.host_sockets.specs.TcpActs.{Acted, unacted, is_let_go, fresh_again, starts, turned, turned_in, record_acts, acts_in, acts_at}
 use Rattle.host_sockets.specs.ListenerActs.{heard}
 use Rattle.host_sockets.specs.Accepting.{given_up, accepts_in, accepts_of, accepts_at, accepted}
-use Rattle.host_sockets.specs.Alarms.{kept_timer, kept_expires, timer_expires, socket_expires, place_of, alarm_comes}
+use Rattle.host_sockets.specs.Alarms.{kept_timer, kept_expires, timer_expires, socket_expires, alarm_comes}
 use Rattle.host_sockets.specs.Arriving.{hears_in}
 use Rattle.host_sockets.specs.Binding.{bind_begins, bind_begun, bind_asked, end_to_use, listening, listen_begun, listen_asked}
 use Rattle.host_sockets.specs.Closing.{unheld, closes_in, closed, closes_tcp}
@@ -193,11 +192,11 @@ either_bound : (b : Bool) (x y : Acted) → ListensBound x.socket → ListensBou
 either_bound true x y hx hy = hx
 either_bound false x y hx hy = hy
 
-pub alarm_all : (now : Time) (object : ObjectId) (serial : ℕ) (t : SocketsRecord) (w : Wanted) → AllListen t.tcp → AllListen (let after : SocketsRecord = (alarm_comes now object serial t w).0 in after.tcp)
+pub alarm_all : (now : Time) (k serial : ℕ) (t : SocketsRecord) (w : Wanted) → AllListen t.tcp → AllListen (let after : SocketsRecord = (alarm_comes now k serial t w).0 in after.tcp)
 unfolding alarm_comes
-alarm_all now object serial t w h =
-    acts_all (place_of object) (socket_expires now (place_of object) serial)
-    (λ s v p. either_bound (s.serial == serial) _ _ (record_bound now (place_of object) _ s v p) (timer_expires_bound now (place_of object) (kept_timer serial s.timers) s v p)) t w h
+alarm_all now k serial t w h =
+    acts_all k (socket_expires now k serial)
+    (λ s v p. either_bound (s.serial == serial) _ _ (record_bound now k _ s v p) (timer_expires_bound now k (kept_timer serial s.timers) s v p)) t w h
 
 -- close(2)
 closes_in_bound : (now : Time) (k : ℕ) (o : Option Listen) (s : TcpSocket) (w : Wanted) → ListensBound (closes_in now k o s w).socket

@@ -3,7 +3,6 @@ use Rattle.std.proofs.Common.{◌≡◌, ℕ, List, length, Option, Some, None, 
 use Rattle.std.specs.List.{position}
 use Rattle.sim_base.specs.declared.address.Ip.{Ip}
 use Rattle.sim_base.specs.declared.address.Addr.{Addr}
-use Rattle.sim_base.specs.declared.object.ObjectId.{ObjectId}
 use Rattle.sim_base.specs.declared.packet.Load.{Load}
 use Rattle.sim_base.specs.declared.packet.Load.TheVariants.{Udp, Tcp}
 use Rattle.sim_base.specs.declared.packet.Packet.{Packet}
@@ -26,7 +25,7 @@ use Rattle.host_sockets.specs.Moving.{send_asked, count_taken, takes_written, se
 use Rattle.host_sockets.specs.Names.{error_asked, takes_error}
 use Rattle.host_sockets.specs.Closing.{closed, closes_tcp}
 use Rattle.host_sockets.specs.Arriving.{takes_in, datagram_in, datagram_at, datagram_arrives, record_takes, listener_hears, hearer, heard_at, segment_at, segment_arrives, arrives_by}
-use Rattle.host_sockets.specs.Alarms.{place_of, socket_expires, alarm_comes}
+use Rattle.host_sockets.specs.Alarms.{socket_expires, alarm_comes}
 use Rattle.socket_laws.specs.Histories.{SocketsAct, left_by, sockets_acted, make_udp, bind_udp, connect_udp, send_udp, recv_udp, close_udp, make_tcp, bind_tcp, listen_tcp, accept_tcp, connect_tcp, connect_again, send_tcp, recv_tcp, shut_tcp, take_error, close_tcp, arrival, alarm, elsewhere}
 use Rattle.socket_laws.proofs.LivePairs.{left_asked, left_after, left_told, taken_row, after_ok, change_ok}
 
@@ -126,9 +125,9 @@ module _ (P : SocketsRecord → Type 0) (t : SocketsRecord) (h : Steps P t) wher
   arrival_goes (Udp bytes) now p w = datagram_goes p.from p.to bytes
   arrival_goes (Tcp flags seq ack window text) now p w = segment_goes now p w
 
-  alarm_goes : (now : Time) (object : ObjectId) (serial : ℕ) (w : Wanted) → P (alarm_comes now object serial t w).0
+  alarm_goes : (now : Time) (k serial : ℕ) (w : Wanted) → P (alarm_comes now k serial t w).0
   unfolding alarm_comes
-  alarm_goes now object serial w = acts_go (place_of object) (socket_expires now (place_of object) serial) w
+  alarm_goes now k serial w = acts_go k (socket_expires now k serial) w
 
   close_goes : (now : Time) (k : ℕ) (w : Wanted) → P (closes_tcp now k t w).0
   unfolding closes_tcp
@@ -163,5 +162,5 @@ module _ (P : SocketsRecord → Type 0) (t : SocketsRecord) (h : Steps P t) wher
       (acts_go k (error_takes now k) w) h.same
   others_go hosts now (close_tcp k) w none = close_goes now k w
   others_go hosts now (arrival p) w none = arrival_goes p.load now p w
-  others_go hosts now (alarm object serial) w none = alarm_goes now object serial w
+  others_go hosts now (alarm k serial) w none = alarm_goes now k serial w
   others_go hosts now (elsewhere after) w none = h.same

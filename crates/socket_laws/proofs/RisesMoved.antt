@@ -257,7 +257,7 @@ step hosts now (shut_tcp j how) t w k even = others_step hosts now (shut_tcp j h
 step hosts now (take_error j) t w k even = others_step hosts now (take_error j) t w k even tt
 step hosts now (close_tcp j) t w k even = others_step hosts now (close_tcp j) t w k even tt
 step hosts now (arrival p) t w k even = others_step hosts now (arrival p) t w k even tt
-step hosts now (alarm object serial) t w k even = others_step hosts now (alarm object serial) t w k even tt
+step hosts now (alarm n serial) t w k even = others_step hosts now (alarm n serial) t w k even tt
 step hosts now (elsewhere after) t w k even = others_step hosts now (elsewhere after) t w k even tt
 
 -- so each of their numbers is that of the acts by which its bit rose

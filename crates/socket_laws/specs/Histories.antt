@@ -2,7 +2,6 @@
 use Rattle.std.specs.Prelude.{ℕ, ℤ, Bool, List, [], ◌∷◌, Option, Result, Ok, Err}
 use Rattle.sim_base.specs.declared.address.Ip.{Ip}
 use Rattle.sim_base.specs.declared.address.Addr.{Addr}
-use Rattle.sim_base.specs.declared.object.ObjectId.{ObjectId}
 use Rattle.sim_base.specs.declared.packet.Packet.{Packet}
 use Rattle.sim_base.specs.declared.time.Time.{Time}
 use Rattle.sock_tcp.specs.declared.connection.effects.Shut.{Shut}
@@ -40,7 +39,7 @@ pub data SocketsAct : Type 0 where
   take_error : (k : ℕ) → SocketsAct
   close_tcp : (k : ℕ) → SocketsAct
   arrival : (p : Packet) → SocketsAct
-  alarm : (object : ObjectId) (serial : ℕ) → SocketsAct
+  alarm : (k serial : ℕ) → SocketsAct
   elsewhere : (w : Wanted) → SocketsAct
 
 -- a call that is refused changes nothing
@@ -71,7 +70,7 @@ sockets_acted hosts now (shut_tcp k how) t w = left_by (shuts_tcp now k how t w)
 sockets_acted hosts now (take_error k) t w = left_by (takes_error now k t w) (t, w)
 sockets_acted hosts now (close_tcp k) t w = closes_tcp now k t w
 sockets_acted hosts now (arrival p) t w = (arrives now p t w).1
-sockets_acted hosts now (alarm object serial) t w = alarm_comes now object serial t w
+sockets_acted hosts now (alarm k serial) t w = alarm_comes now k serial t w
 sockets_acted hosts now (elsewhere after) t w = (t, after)
 
 -- acts, one behind another, each at its moment

@@ -51,7 +51,7 @@ module _ (scope : Addr → Addr → Bool) (hosts : List Ip) (own : Ip) (others :
   acted_reach now (take_error k) t w plain may = error_taken_reach scope own others flying now k t w plain
   acted_reach now (close_tcp k) t w plain may = close_reach scope own others flying now k t w plain
   acted_reach now (arrival p) t w plain may = arrival_reach scope own others flying p.load now p t w may plain
-  acted_reach now (alarm object serial) t w plain may = alarm_reach scope own others flying now object serial t w plain
+  acted_reach now (alarm k serial) t w plain may = alarm_reach scope own others flying now k serial t w plain
   acted_reach now (elsewhere after) t w plain may = elsewhere_reach t w after may plain
 
   -- what was on its way before is so still
@@ -75,7 +75,7 @@ module _ (scope : Addr → Addr → Bool) (hosts : List Ip) (own : Ip) (others :
   still_may (shut_tcp k how) w may = may
   still_may (take_error k) w may = may
   still_may (close_tcp k) w may = may
-  still_may (alarm object serial) w may = may
+  still_may (alarm k serial) w may = may
 
   after_reach : (acts : List (Time × SocketsAct)) (t : SocketsRecord) (w : Wanted) → ArePlain own t → MayAllFreely hosts flying acts t w → Reaches scope own others flying (t, w) (sockets_after hosts acts (t, w))
   after_reach [] t w plain may = rests_reach scope own others flying t w plain

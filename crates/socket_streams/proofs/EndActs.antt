@@ -5,7 +5,6 @@ use Rattle.std.specs.List.{AllByRecursion, remove}
 use Rattle.sim_base.specs.Refusals.{◌>>=◌, ◌>>◌, or_refuse}
 use Rattle.sim_base.specs.declared.address.Ip.{Ip}
 use Rattle.sim_base.specs.declared.address.Addr.{Addr}
-use Rattle.sim_base.specs.declared.object.ObjectId.{ObjectId}
 use Rattle.sim_base.specs.declared.packet.Load.{Load}
 use Rattle.sim_base.specs.declared.packet.Load.TheVariants.{Udp, Tcp}
 use Rattle.sim_base.specs.declared.packet.Packet.{Packet}
@@ -41,7 +40,7 @@ use Rattle.host_sockets.specs.Moving.{send_asked, takes_written, sends_taking, r
 use Rattle.host_sockets.specs.Names.{error_asked, takes_error}
 use Rattle.host_sockets.specs.Closing.{unheld, closes_in, closed, closes_tcp}
 use Rattle.host_sockets.specs.Arriving.{hears_in, listener_hears, hearer, refusal_sent, heard_at, segment_at, segment_arrives, datagram_in, datagram_at, datagram_arrives, arrives_by, word_drawn}
-use Rattle.host_sockets.specs.Alarms.{kept_timer, kept_expires, timer_expires, socket_expires, place_of, alarm_comes}
+use Rattle.host_sockets.specs.Alarms.{kept_timer, kept_expires, timer_expires, socket_expires, alarm_comes}
 use Rattle.host_sockets.specs.ListenerActs.{timer_starts, heard}
 use Rattle.host_sockets.specs.Records.{own_record, kept_records, records_at, records_of}
 use Rattle.socket_laws.specs.Histories.{SocketsAct, left_by, sockets_acted}
@@ -354,10 +353,9 @@ module _ (P : Addr → Addr → Type 0) (W : Packet → Type 0) (carries : (p : 
   timer_alarm_fit now k None s w h wants = (h, (tt, wants))
   timer_alarm_fit now k (Some timer) s w h wants = kept_alarm_fit now k timer s.listen s w refl h wants
 
-  alarm_fit : (now : Time) (object : ObjectId) (serial : ℕ) (t : SocketsRecord) (w : Wanted) → Fit (t, w) → Fit (alarm_comes now object serial t w)
+  alarm_fit : (now : Time) (k serial : ℕ) (t : SocketsRecord) (w : Wanted) → Fit (t, w) → Fit (alarm_comes now k serial t w)
   unfolding alarm_comes
-  alarm_fit now object serial t w h =
-      let k = place_of object in
+  alarm_fit now k serial t w h =
       acts_fit k (socket_expires now k serial) t w h
       (λ s at here.
       by_test Leaves (s.serial == serial) _ _
@@ -540,7 +538,7 @@ module _ (P : Addr → Addr → Type 0) (W : Packet → Type 0) (carries : (p : 
   acted_fit hosts now (take_error k) t w brings h = taken_error_fit now k t w h
   acted_fit hosts now (close_tcp k) t w brings h = close_fit now k t w h
   acted_fit hosts now (arrival p) t w brings h = arrival_fit p.load now p t w brings h
-  acted_fit hosts now (alarm object serial) t w brings h = alarm_fit now object serial t w h
+  acted_fit hosts now (alarm k serial) t w brings h = alarm_fit now k serial t w h
   acted_fit hosts now (elsewhere after) t w brings h = (h.0, brings)
 
   -- ---- all records

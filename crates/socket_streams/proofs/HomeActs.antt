@@ -80,7 +80,7 @@ module _ (own : Ip) where
   brings_home hosts (shut_tcp k how) t comes here = tt
   brings_home hosts (take_error k) t comes here = tt
   brings_home hosts (close_tcp k) t comes here = tt
-  brings_home hosts (alarm object serial) t comes here = tt
+  brings_home hosts (alarm k serial) t comes here = tt
 
   after_home : (hosts : List Ip) (acts : List (Time × SocketsAct)) (t : SocketsRecord) (w : Wanted) → AllComeHome own acts → Here own t → FitsHome (t, w) → FitsHome (sockets_after hosts acts (t, w))
   after_home hosts [] t w comes here h = h

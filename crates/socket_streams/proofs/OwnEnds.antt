@@ -182,7 +182,7 @@ module _ (own : Ip) (outside : is_same_ip own loopback ≡ false) (hosts : List 
   act_brings (shut_tcp k how) t w may told here h = tt
   act_brings (take_error k) t w may told here h = tt
   act_brings (close_tcp k) t w may told here h = tt
-  act_brings (alarm object serial) t w may told here h = tt
+  act_brings (alarm k serial) t w may told here h = tt
 
   acts_fit : (acts : List (Time × SocketsAct)) (t : SocketsRecord) (w : Wanted) → MayAll hosts flying acts t w → AreTold hosts acts t w → Here own t → OwnFit own (t, w)
       → Here own (sockets_after hosts acts (t, w)).0 × OwnFit own (sockets_after hosts acts (t, w))

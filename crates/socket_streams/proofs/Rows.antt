@@ -8,7 +8,6 @@ use Rattle.sim_base.specs.Refusals.{◌>>=◌, ◌>>◌, refuse_if, or_refuse}
 use Rattle.sim_base.specs.declared.address.Ip.{Ip}
 use Rattle.sim_base.specs.declared.address.Addr.{Addr}
 use Rattle.sim_base.specs.declared.errno.Errno.TheVariants.{Ealready, Eisconn}
-use Rattle.sim_base.specs.declared.object.ObjectId.{ObjectId}
 use Rattle.sim_base.specs.declared.packet.Load.{Load}
 use Rattle.sim_base.specs.declared.packet.Load.TheVariants.{Udp, Tcp}
 use Rattle.sim_base.specs.declared.packet.Packet.{Packet}
@@ -41,7 +40,7 @@ use Rattle.host_sockets.specs.Moving.{send_asked, takes_written, sends_taking, r
 use Rattle.host_sockets.specs.Names.{error_asked, takes_error}
 use Rattle.host_sockets.specs.Closing.{closed, closes_tcp}
 use Rattle.host_sockets.specs.Arriving.{record_takes, datagram_in, datagram_at, datagram_arrives, takes_in, listener_hears, hearer, refusal_sent, heard_at, segment_at, segment_arrives, arrives_by}
-use Rattle.host_sockets.specs.Alarms.{socket_expires, place_of, alarm_comes}
+use Rattle.host_sockets.specs.Alarms.{socket_expires, alarm_comes}
 use Rattle.host_sockets.specs.Records.{own_record, kept_records, records_at, records_of}
 use Rattle.socket_laws.specs.Histories.{left_by}
 use Rattle.socket_laws.proofs.LivePairs.{left_asked, left_after, left_told, Taken, taken_row, after_ok, change_ok, left_opens}
@@ -348,8 +347,8 @@ module _ (scope : Addr → Addr → Bool) (own : Ip) (others : List Tcb) (flying
   arrival_reach (Tcp flags seq ack window text) now p t w c plain = segment_reach now p t w c plain
 
   -- an alarm comes
-  pub alarm_reach : (now : Time) (object : ObjectId) (serial : ℕ) (t : SocketsRecord) (w : Wanted) → ArePlain own t → Reaches scope own others flying (t, w) (alarm_comes now object serial t w)
+  pub alarm_reach : (now : Time) (k serial : ℕ) (t : SocketsRecord) (w : Wanted) → ArePlain own t → Reaches scope own others flying (t, w) (alarm_comes now k serial t w)
   unfolding alarm_comes
-  alarm_reach now object serial t w plain =
-      acts_reach scope own others flying (place_of object) (socket_expires now (place_of object) serial) t w plain
-      (λ s at here. alarm_does scope own flying now (place_of object) serial s w here)
+  alarm_reach now k serial t w plain =
+      acts_reach scope own others flying k (socket_expires now k serial) t w plain
+      (λ s at here. alarm_does scope own flying now k serial s w here)

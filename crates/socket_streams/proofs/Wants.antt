@@ -3,14 +3,15 @@ use Rattle.std.proofs.Common.{◌≡◌, inl, inr, ⊎_elim, ℕ, List, [], ◌�
 use Rattle.std.proofs.lemmas.List.Elements.{Contains-append_left, Contains-append_right, Contains-append_cases, filter_map-append}
 use Rattle.std.specs.List.{filter_map}
 use Rattle.sim_base.specs.declared.address.Addr.{Addr}
-use Rattle.sim_base.specs.declared.object.ObjectId.{ObjectId}
+use Rattle.sim_base.specs.declared.alarm.AlarmTarget.{AlarmTarget}
+use Rattle.sim_base.specs.declared.alarm.AlarmTarget.TheVariants.{Socket}
 use Rattle.sim_base.specs.declared.packet.Packet.{Packet}
 use Rattle.sim_base.specs.declared.time.Time.{Time}
 use Rattle.host_wants.specs.declared.outlet.Want.TheVariants.{Send, Alarm}
 use Rattle.host_sockets.specs.declared.tcp_sock.KeptTimer.{KeptTimer}
 use Rattle.host_wants.specs.Wanted.{Wanted, sends, next_serial, wants_alarm, due_after}
 use Rattle.host_sockets.specs.TcpSocket.{TcpSocket}
-use Rattle.host_sockets.specs.TcpActs.{object_of, starts}
+use Rattle.host_sockets.specs.TcpActs.{starts}
 use Rattle.host_sockets.specs.ListenerActs.{timer_starts}
 use Rattle.socket_streams.specs.Records.{packet_in, packets_of}
 use Rattle.socket_streams.proofs.Listening.{Flown}
@@ -23,17 +24,17 @@ pub sends_packets : (sent : List Packet) (w : Wanted) → packets_of (sends sent
 sends_packets sent w =
     filter_map-append packet_in w.wants (map Send sent) ∙ ap (λ (xs : List Packet). packets_of w ++ xs) (all_packets sent)
 
-pub alarm_packets : (object : ObjectId) (due : Time) (w : Wanted) → packets_of (wants_alarm object due w).1 ≡ packets_of w
-alarm_packets object due w =
-    filter_map-append packet_in w.wants (Alarm object (next_serial w) due ∷ []) ∙ append-nil (packets_of w)
+pub alarm_packets : (target : AlarmTarget) (due : Time) (w : Wanted) → packets_of (wants_alarm target due w).1 ≡ packets_of w
+alarm_packets target due w =
+    filter_map-append packet_in w.wants (Alarm target (next_serial w) due ∷ []) ∙ append-nil (packets_of w)
 
 pub starts_packets : (now : Time) (k : ℕ) (o : Option Time) (s : TcpSocket) (w : Wanted) → packets_of (starts now k o s w).1 ≡ packets_of w
 starts_packets now k None s w = refl
-starts_packets now k (Some length) s w = alarm_packets (object_of k) (due_after now length) w
+starts_packets now k (Some length) s w = alarm_packets (Socket k) (due_after now length) w
 
 pub timer_starts_packets : (now : Time) (k : ℕ) (a b : Addr) (o : Option Time) (timers : List KeptTimer) (w : Wanted) → packets_of (timer_starts now k a b o timers w).1 ≡ packets_of w
 timer_starts_packets now k a b None timers w = refl
-timer_starts_packets now k a b (Some length) timers w = alarm_packets (object_of k) (due_after now length) w
+timer_starts_packets now k a b (Some length) timers w = alarm_packets (Socket k) (due_after now length) w
 
 -- beside packets that were on their way already
 flown_by : (flying sent : List Packet) (w after : Wanted) → packets_of after ≡ packets_of w ++ sent → Flown (flying ++ packets_of w) sent (flying ++ packets_of after)

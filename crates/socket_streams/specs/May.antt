@@ -41,7 +41,7 @@ MayDo given flying (recv_tcp k count) = Unit {0}
 MayDo given flying (shut_tcp k how) = Unit {0}
 MayDo given flying (take_error k) = Unit {0}
 MayDo given flying (close_tcp k) = Unit {0}
-MayDo given flying (alarm object serial) = Unit {0}
+MayDo given flying (alarm k serial) = Unit {0}
 
 -- acts, of which what arrives is on its way by then
 abbrev pub MayAllFreely : List Ip → List Packet → List (Time × SocketsAct) → SocketsRecord → Wanted → Type 0

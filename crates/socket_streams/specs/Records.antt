@@ -12,7 +12,7 @@ use Rattle.tcp_streams.specs.Net.{Net}
 -- a packet that is wanted is on its way
 abbrev pub packet_in : Want → Option Packet
 packet_in (Send packet) = Some packet
-packet_in (Alarm object serial due) = None
+packet_in (Alarm target serial due) = None
 
 abbrev pub packets_of : Wanted → List Packet
 packets_of w = filter_map packet_in w.wants

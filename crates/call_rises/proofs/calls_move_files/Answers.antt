@@ -12,7 +12,7 @@ pub returns-clause-end : goal.returns-clause-end
 returns-clause-end c = λ now process h. (ended_keeps [] now process h).files
 
 pub returns-clause-alarm : goal.returns-clause-alarm
-returns-clause-alarm c = λ now object serial h. (alarmed_keeps [] now object serial h).files
+returns-clause-alarm c = λ now target serial h. (alarmed_keeps [] now target serial h).files
 
 pub returns-clause-arrival : goal.returns-clause-arrival
 returns-clause-arrival c = λ now packet h. refl

@@ -16,8 +16,8 @@ pub returns-clause-end : goal.returns-clause-end
 returns-clause-end c = λ hosts now process h hold. moves_names hosts now h (ended now process h) (ended_keep_names hosts now process h) hold
 
 pub returns-clause-alarm : goal.returns-clause-alarm
-returns-clause-alarm c = λ hosts now object serial h hold.
-    moves_names hosts now h (alarmed now object serial h) (alarmed_keep_names hosts now object serial h) hold
+returns-clause-alarm c = λ hosts now target serial h hold.
+    moves_names hosts now h (alarmed now target serial h) (alarmed_keep_names hosts now target serial h) hold
 
 pub returns-clause-arrival : goal.returns-clause-arrival
 returns-clause-arrival c = λ hosts now packet h hold.

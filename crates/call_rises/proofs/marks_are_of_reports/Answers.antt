@@ -12,7 +12,7 @@ pub returns-clause-end : goal.returns-clause-end
 returns-clause-end c = λ now process h. (ended_keeps [] now process h).marks
 
 pub returns-clause-alarm : goal.returns-clause-alarm
-returns-clause-alarm c = λ now object serial h. (alarmed_keeps [] now object serial h).marks
+returns-clause-alarm c = λ now target serial h. (alarmed_keeps [] now target serial h).marks
 
 pub returns-clause-arrival : goal.returns-clause-arrival
 returns-clause-arrival c = λ now packet h. (arrives_keeps [] now packet h).marks

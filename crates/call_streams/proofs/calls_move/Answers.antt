@@ -17,4 +17,4 @@ pub returns-clause-comes : goal.returns-clause-comes
 returns-clause-comes c = λ hosts now packet flying h contains. arrives_moves hosts flying now packet h contains
 
 pub returns-clause-alarm : goal.returns-clause-alarm
-returns-clause-alarm c = λ hosts now object serial flying h. alarmed_moves hosts flying now object serial h
+returns-clause-alarm c = λ hosts now target serial flying h. alarmed_moves hosts flying now target serial h

@@ -5,4 +5,4 @@ use Rattle.host_fds.proofs.table.Table.place.Goals as goal
 pub returns : goal.returns
 returns c =
     let within : c.args.fd < length c.self.inside.slots.items = omega arith in
-    rw (← c.self.view_is) (placed c.self.inside.slots.items c.args.fd within c.args.object)
+    rw (← c.self.view_is) (placed c.self.inside.slots.items c.args.fd within c.args.file)

@@ -33,7 +33,7 @@ pub returns-in-Alarm : goal.returns-in-Alarm
 unfolding acts
 returns-in-Alarm c =
     on_ok_weaker c.ring.result
-    (λ (d : Does (rings c.args.net.now c.in-Alarm.object c.in-Alarm.serial) c.args.self.now c.ring.new.self). subst (λ (w : What). Does (acts c.args.net.now w) c.args.self.now c.ring.new.self) (sym c.in-Alarm.is) d)
+    (λ (d : Does (rings c.args.net.now c.in-Alarm.target c.in-Alarm.serial) c.args.self.now c.ring.new.self). subst (λ (w : What). Does (acts c.args.net.now w) c.args.self.now c.ring.new.self) (sym c.in-Alarm.is) d)
     c.ring.ensures
 
 pub returns-in-Loop : goal.returns-in-Loop
