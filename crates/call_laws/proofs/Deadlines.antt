@@ -23,7 +23,7 @@ use Rattle.call_laws.specs.Laws.{kept_by, kept_call, takes_time}
 use Rattle.host_files.specs.Epolls.{epoll_at}
 use Rattle.call_parts.specs.Epoll.{is_negative, time_of_ms, wait_deadline, wait_place}
 use Rattle.host_calls.specs.Epoll.{has_due, waits_for, wait_plan}
-use Rattle.host_calls.specs.Parts.{PartsRecord, Place, Scene, place_in}
+use Rattle.host_calls.specs.Parts.{PartsRecord, Slot, Scene, slot_in}
 use Rattle.call_parts.specs.Polling.{has_come, entry_size, poll_limit, poll_time, poll_entries}
 use Rattle.host_calls.specs.Polling.{nothing_came, count_told, poll_found, poll_plan}
 use Rattle.file_calls.specs.Times.{kept_or, at_nanos, deadline_of, sleep_time, sleep_asked}
@@ -142,14 +142,14 @@ waits_never known now (Some (system_call.Waiting w)) args s why deadline timed e
 waits_never known now (Some system_call.Close) args s why deadline timed e first come = refl
 waits_never known now (Some system_call.Exit) args s why deadline timed e first come = refl
 
-place_come : (known : Known) (now : Time) (why : Why) (deadline : Time) (task : Option Task) (p : Place) → kept_by task ≡ Some why → why.deadline ≡ Some deadline
+slot_come : (known : Known) (now : Time) (why : Why) (deadline : Time) (task : Option Task) (p : Slot) → kept_by task ≡ Some why → why.deadline ≡ Some deadline
     → takes_time (call_of why.number) why.args ≡ true → deadline.nanos ≤ now.nanos → answers_by known now why task p ≡ true
-place_come known now why deadline None p e first timed come = refl
-place_come known now why deadline (Some task) p e first timed come =
+slot_come known now why deadline None p e first timed come = refl
+slot_come known now why deadline (Some task) p e first timed come =
     ap not (waits_never known now (call_of why.number) why.args (scene_at task p) why deadline timed e first come)
 
 -- a call whose deadline has come answers
 pub deadline_answers_is : (known : Known) (now : Time) (process : ℕ) (why : Why) (h : PartsRecord) (deadline : Time) → kept_call process h ≡ Some why → why.deadline ≡ Some deadline
     → takes_time (call_of why.number) why.args ≡ true → deadline.nanos ≤ now.nanos → answers known now process why h ≡ true
 deadline_answers_is known now process why h deadline e first timed come =
-    place_come known now why deadline (at process h.tasks) (place_in process h) e first timed come
+    slot_come known now why deadline (at process h.tasks) (slot_in process h) e first timed come

@@ -16,9 +16,9 @@ use Rattle.file_calls.specs.declared.task.Task.{Task}
 use Rattle.file_calls.specs.declared.task.Why.{Why}
 use Rattle.host_sockets.specs.Sockets.{SocketsRecord}
 use Rattle.call_parts.specs.Call.{call_of}
-use Rattle.host_calls.specs.Calls.{scene_at, cleared, row_of, blocks_by, in_scene, answered, call_by, call_place, call}
-use Rattle.host_calls.specs.Events.{ended_by, ended_place, ended}
-use Rattle.host_calls.specs.Parts.{PartsRecord, Place, Scene, place_in}
+use Rattle.host_calls.specs.Calls.{scene_at, cleared, row_of, blocks_by, in_scene, answered, call_by, call_slot, call}
+use Rattle.host_calls.specs.Events.{ended_by, ended_slot, ended}
+use Rattle.host_calls.specs.Parts.{PartsRecord, Slot, Scene, slot_in}
 use Rattle.file_calls.specs.Scene.{Local}
 use Rattle.call_laws.proofs.DescriptorLaws.{all_closed_is_free}
 
@@ -28,14 +28,14 @@ set_none [] (suc process) fd task h = tt
 set_none (first ∷ tasks) zero fd task h = h
 set_none (first ∷ tasks) (suc process) fd task h = set_none tasks process fd task h
 
-ended_by_none : (now : Time) (fd : ℕ) (task : Option Task) (p : Place) → p.task ≡ task → fd < limit → IfSome (ended_by now task p).task (λ t. map.get t.table fd ≡ None)
+ended_by_none : (now : Time) (fd : ℕ) (task : Option Task) (p : Slot) → p.task ≡ task → fd < limit → IfSome (ended_by now task p).task (λ t. map.get t.table fd ≡ None)
 ended_by_none now fd None p e in_range = rw e tt
 ended_by_none now fd (Some task) p e in_range = all_closed_is_free now (cleared (scene_at task p)) fd in_range
 
 -- at every end
 pub ended_none : (now : Time) (process fd : ℕ) (h : PartsRecord) → fd < limit → IfSome (at process (ended now process h).tasks) (λ t. map.get t.table fd ≡ None)
 ended_none now process fd h in_range =
-    set_none h.tasks process fd (ended_place now (place_in process h)).task (ended_by_none now fd (at process h.tasks) (place_in process h) refl in_range)
+    set_none h.tasks process fd (ended_slot now (slot_in process h)).task (ended_by_none now fd (at process h.tasks) (slot_in process h) refl in_range)
 
 -- and where a call of its own ends it
 blocks_no_end : (process : ℕ) (why : Why) (kept : Option Why) (s : Local) (t : SocketsRecord) (state : State) → (in_scene t (blocks_by process why kept s)).0 ≡ answer.End state → ⊥
@@ -51,7 +51,7 @@ answered_none now process number args (Err (refusal.Kept errno)) s state fd e in
 answered_none now process number args (Err (refusal.Wait until)) s state fd e in_range = absurd (blocks_no_end process _ s.task.kept (s.task, s.shared) s.sockets state e)
 answered_none now process number args (Err (refusal.End end)) s state fd e in_range = all_closed_is_free now (cleared s) fd in_range
 
-call_by_none : (known : Known) (now : Time) (process number : ℕ) (args : List ℕ) (task : Option Task) (p : Place) (state : State) (fd : ℕ)
+call_by_none : (known : Known) (now : Time) (process number : ℕ) (args : List ℕ) (task : Option Task) (p : Slot) (state : State) (fd : ℕ)
     → (call_by known now process number args task p).0 ≡ answer.End state → fd < limit → IfSome (call_by known now process number args task p).1.task (λ t. map.get t.table fd ≡ None)
 call_by_none known now process number args None p state fd e in_range = let no : ⊥ = cc in absurd no
 call_by_none known now process number args (Some task) p state fd e in_range =
@@ -60,5 +60,5 @@ call_by_none known now process number args (Some task) p state fd e in_range =
 pub call_none : (known : Known) (now : Time) (process number : ℕ) (args : List ℕ) (h : PartsRecord) (state : State) (fd : ℕ)
     → (call known now process number args h).0 ≡ answer.End state → fd < limit → IfSome (at process (call known now process number args h).1.tasks) (λ t. map.get t.table fd ≡ None)
 call_none known now process number args h state fd e in_range =
-    set_none h.tasks process fd (call_place known now process number args (place_in process h)).1.task
-    (call_by_none known now process number args (at process h.tasks) (place_in process h) state fd e in_range)
+    set_none h.tasks process fd (call_slot known now process number args (slot_in process h)).1.task
+    (call_by_none known now process number args (at process h.tasks) (slot_in process h) state fd e in_range)

@@ -31,7 +31,7 @@ use Rattle.file_calls.specs.Descriptors.{descriptor}
 use Rattle.host_calls.specs.Epoll.{wait_plan}
 use Rattle.file_calls.specs.Files.{file_read_plan, reads, file_write_plan, writes}
 use Rattle.call_laws.specs.Laws.{is_block, kept_by, kept_call}
-use Rattle.host_calls.specs.Parts.{PartsRecord, Place, Scene, local_of, place_in, plainly}
+use Rattle.host_calls.specs.Parts.{PartsRecord, Slot, Scene, local_of, slot_in, plainly}
 use Rattle.host_calls.specs.Polling.{poll_plan, polls}
 use Rattle.file_calls.specs.Scene.{Local}
 use Rattle.host_calls.specs.Sockets.{socket, bind, listen, accept_plan, accepts, connect_plan, getsockname, getpeername, send_plan, sendto_plan, sends_by, recv_plan, recvfrom_plan, receives, getsockopt, shutdown}
@@ -150,12 +150,12 @@ scene_answers known now process why s e =
     answered_waits now process why.number why.args (row_of known now process (call_of why.number) why.args s) s
     ∙ row-same known now process (call_of why.number) why.args s why e ∙ not-not _
 
-place_answers : (known : Known) (now : Time) (process : ℕ) (why : Why) (task : Option Task) (p : Place) → kept_by task ≡ Some why
+slot_answers : (known : Known) (now : Time) (process : ℕ) (why : Why) (task : Option Task) (p : Slot) → kept_by task ≡ Some why
     → is_block (call_by known now process why.number why.args task p).0 ≡ not (answers_by known now why task p)
-place_answers known now process why None p e = cc
-place_answers known now process why (Some task) p e = scene_answers known now process why (scene_at task p) e
+slot_answers known now process why None p e = cc
+slot_answers known now process why (Some task) p e = scene_answers known now process why (scene_at task p) e
 
 -- the call that a process waits in would answer exactly where making it again doesn't wait
 pub kept_call_answers_is : (known : Known) (now : Time) (process : ℕ) (why : Why) (h : PartsRecord) → kept_call process h ≡ Some why
     → is_block (call known now process why.number why.args h).0 ≡ not (answers known now process why h)
-kept_call_answers_is known now process why h e = place_answers known now process why (at process h.tasks) (place_in process h) e
+kept_call_answers_is known now process why h e = slot_answers known now process why (at process h.tasks) (slot_in process h) e

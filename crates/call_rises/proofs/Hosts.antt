@@ -19,7 +19,7 @@ use Rattle.host_files.specs.Files.{FilesState, file_at, next_file}
 use Rattle.host_files.specs.Slots.{at}
 use Rattle.file_calls.specs.declared.task.Shared.{Shared}
 use Rattle.file_calls.specs.declared.task.Task.{Task}
-use Rattle.host_calls.specs.Parts.{PartsRecord, Place, place, with_place}
+use Rattle.host_calls.specs.Parts.{PartsRecord, Slot, slot, with_slot}
 use Rattle.host_calls.specs.Starting.{fresh_task, std_file, starts}
 use Rattle.file_laws.proofs.Places.{set_same, set_other}
 use Rattle.call_rises.specs.Moves.{FilesMove}
@@ -100,9 +100,9 @@ names_one hosts now x y m s id jd f g before after e k same alone = record {
 }
 
 -- a process is put in its place, as it is left
-module _ (h : PartsRecord) (process : ℕ) (p : Place) (left : Task) (is : p.task ≡ Some left) where
+module _ (h : PartsRecord) (process : ℕ) (p : Slot) (left : Task) (is : p.task ≡ Some left) where
   abbrev y : PartsRecord
-  y = with_place process p h
+  y = with_slot process p h
 
   abbrev after_view : View
   after_view = view left p.shared p.sockets
@@ -288,14 +288,14 @@ module _ (process : ℕ) (memory : Memory) (h : PartsRecord) where
   abbrev begun : Task × Shared
   begun = starts memory h.shared
 
-  abbrev begun_place : Place
-  begun_place = place (Some begun.0) begun.1 h.sockets
+  abbrev begun_slot : Slot
+  begun_slot = slot (Some begun.0) begun.1 h.sockets
 
   abbrev begun_parts : PartsRecord
-  begun_parts = with_place process begun_place h
+  begun_parts = with_slot process begun_slot h
 
   pub hold_begun : NamesHold h.tasks h.shared.files h.sockets → NamesHold begun_parts.tasks begun_parts.shared.files begun_parts.sockets
-  hold_begun hold = hold_placed h process begun_place begun.0 refl (started_sound hold) hold
+  hold_begun hold = hold_placed h process begun_slot begun.0 refl (started_sound hold) hold
 
   file_stays : (n : ℕ) (f : File) → at n h.shared.files.files ≡ Some f → at n begun.1.files.files ≡ Some f
   file_stays n f e =
@@ -313,7 +313,7 @@ module _ (process : ℕ) (memory : Memory) (h : PartsRecord) where
   -- it has no entries, and those of the others stay
   pub entry_begun : (P : Type 0) (q k : ℕ) (last : Task) (w : Watch) → at q begun_parts.tasks ≡ Some last → HasEntry k last.epolls w → (process ≢ q → at q h.tasks ≡ Some last → P) → P
   entry_begun P q k last w e entry others =
-      who h process begun_place begun.0 refl P q last e
+      who h process begun_slot begun.0 refl P q last e
       (λ same is. absurd (no_entry k w (subst (λ (t : Task). HasEntry k t.epolls w) (sym is) entry)))
       others
 

@@ -45,7 +45,7 @@ use Rattle.file_calls.specs.Descriptors.{descriptor}
 use Rattle.host_calls.specs.Epoll.{seen_of, all_seen, told_of, epoll_waits}
 use Rattle.host_calls.specs.Events.{arrives, alarmed, ended_by, ended}
 use Rattle.file_calls.specs.Files.{reads, writes}
-use Rattle.host_calls.specs.Parts.{PartsRecord, Place, place, place_in, place_of, with_place, Scene, local_of, with_local, plainly}
+use Rattle.host_calls.specs.Parts.{PartsRecord, Slot, slot, slot_in, slot_of, with_slot, Scene, local_of, with_local, plainly}
 use Rattle.call_parts.specs.Polling.{poll_entries, entry_size}
 use Rattle.host_calls.specs.Polling.{polled, polls}
 use Rattle.file_calls.specs.Scene.{Local}
@@ -289,7 +289,7 @@ module _ (h : PartsRecord) (process : ℕ) where
   none_there : (task : Task) → None ≡ Some task → AllRise task.epolls
   none_there task e = cc
 
-  pub placed_by : (p : Place) (task : Task) → p.task ≡ Some task → AllRise task.epolls → TasksRise h → TasksRise (with_place process p h)
+  pub placed_by : (p : Slot) (task : Task) → p.task ≡ Some task → AllRise task.epolls → TasksRise h → TasksRise (with_slot process p h)
   placed_by p task is here rise q other there =
       by_number process q (AllRise other.epolls)
       (λ same.
@@ -303,7 +303,7 @@ module _ (h : PartsRecord) (process : ℕ) where
           let one : task ≡ other = cc in subst (λ (t : Task). AllRise t.epolls) one here
 
   -- one that is gone
-  pub emptied : TasksRise h → TasksRise (with_place process (place None h.shared h.sockets) h)
+  pub emptied : TasksRise h → TasksRise (with_slot process (slot None h.shared h.sockets) h)
   emptied rise q other there =
       by_number process q (AllRise other.epolls)
       (λ same.
@@ -311,7 +311,7 @@ module _ (h : PartsRecord) (process : ℕ) where
       (set_same process None h.tasks other (subst (λ (n : ℕ). at n (slice_set h.tasks process None) ≡ Some other) (sym same) there)))
       (λ apart. rise q other (sym (set_other process q None h.tasks apart) ∙ there))
 
-  kept_by : (p : Place) → p.task ≡ at process h.tasks → TasksRise h → TasksRise (with_place process p h)
+  kept_by : (p : Slot) → p.task ≡ at process h.tasks → TasksRise h → TasksRise (with_slot process p h)
   kept_by p is rise q other there =
       by_number process q (AllRise other.epolls)
       (λ same.
@@ -358,9 +358,9 @@ keeps_by hosts now x y m s tasks hold marks were one = record {
 }
 
 -- a process is left as an act leaves it
-pub moved_place : (hosts : List Ip) (now : Time) (h : PartsRecord) (process : ℕ) (before : Task) (p : Place) (left : Task) → at process h.tasks ≡ Some before → p.task ≡ Some left → Moved now.nanos (view before h.shared h.sockets) (view left p.shared p.sockets) → SocketsMove hosts h.sockets p.sockets → KeepsNames hosts now h (with_place process p h)
-moved_place hosts now h process before p left there is m s =
-    keeps_by hosts now h (with_place process p h) m.files s
+pub moved_slot : (hosts : List Ip) (now : Time) (h : PartsRecord) (process : ℕ) (before : Task) (p : Slot) (left : Task) → at process h.tasks ≡ Some before → p.task ≡ Some left → Moved now.nanos (view before h.shared h.sockets) (view left p.shared p.sockets) → SocketsMove hosts h.sockets p.sockets → KeepsNames hosts now h (with_slot process p h)
+moved_slot hosts now h process before p left there is m s =
+    keeps_by hosts now h (with_slot process p h) m.files s
     (λ rise. placed_by h process p left is (m.epolls (rise process before there)) rise)
     (hold_after h process p left is now before there m.names)
     (marks_after h process p left is now before there m.names)
@@ -373,18 +373,18 @@ rest_there hosts now x y m s tasks same files grows stay =
     keeps_by hosts now x y m s tasks (hold_rests now x y same files grows stay) (marks_rest now x y same files grows stay) (λ q last e. (last, sym (same q) ∙ e)) (one_rests now x y same files grows stay hosts m s)
 
 module _ (hosts : List Ip) (now : Time) where
-  no_task : (process : ℕ) (h : PartsRecord) → KeepsNames hosts now h (with_place process (place_in process h) h)
+  no_task : (process : ℕ) (h : PartsRecord) → KeepsNames hosts now h (with_slot process (slot_in process h) h)
   no_task process h =
-      rest_there hosts now h (with_place process (place_in process h) h) (none now.nanos h.shared.files) (sockets_rest hosts h.sockets) (kept_by h process (place_in process h) refl) (placed_same process h.tasks) refl
+      rest_there hosts now h (with_slot process (slot_in process h) h) (none now.nanos h.shared.files) (sockets_rest hosts h.sockets) (kept_by h process (slot_in process h) refl) (placed_same process h.tasks) refl
       (grows_so h.shared.files h.shared.files refl refl refl) (all_stay h.sockets)
 
   -- an end of a process, and a start
-  ended_by_option : (process : ℕ) (h : PartsRecord) (o : Option Task) → at process h.tasks ≡ o → KeepsNames hosts now h (with_place process (ended_by now o (place_in process h)) h)
+  ended_by_option : (process : ℕ) (h : PartsRecord) (o : Option Task) → at process h.tasks ≡ o → KeepsNames hosts now h (with_slot process (ended_by now o (slot_in process h)) h)
   ended_by_option process h None e = no_task process h
   ended_by_option process h (Some task) e =
-      let s = scene_at task (place_in process h) in
+      let s = scene_at task (slot_in process h) in
       let left = all_ended_move hosts now s in
-      moved_place hosts now h process task (place_of (all_ended now s)) (all_ended now s).task e refl left.0 left.1
+      moved_slot hosts now h process task (slot_of (all_ended now s)) (all_ended now s).task e refl left.0 left.1
 
   pub ended_keep_names : (process : ℕ) (h : PartsRecord) → KeepsNames hosts now h (ended now process h)
   ended_keep_names process h = ended_by_option process h (at process h.tasks) refl
@@ -400,7 +400,7 @@ module _ (hosts : List Ip) (now : Time) where
       record {
         files = m;
         sockets = rest;
-        tasks = λ rise. placed_by h process (place (Some s.0) s.1 h.sockets) s.0 refl none_rise rise;
+        tasks = λ rise. placed_by h process (slot (Some s.0) s.1 h.sockets) s.0 refl none_rise rise;
         hold = hold_begun process memory h;
         marks = marks_begun process memory h now;
         were = λ q k last w e entry.
@@ -519,13 +519,13 @@ module _ (known : Known) (now : Time) where
   row_of_leads process None args s = refused (Q known.book now s) _
   row_of_leads process (Some c) args s = row_leads process c args s
 
-  call_by_option : (process number : ℕ) (args : List ℕ) (h : PartsRecord) (o : Option Task) → at process h.tasks ≡ o → KeepsNames known.book now h (with_place process (call_by known now process number args o (place_in process h)).1 h)
+  call_by_option : (process number : ℕ) (args : List ℕ) (h : PartsRecord) (o : Option Task) → at process h.tasks ≡ o → KeepsNames known.book now h (with_slot process (call_by known now process number args o (slot_in process h)).1 h)
   call_by_option process number args h None e = no_task known.book now process h
   call_by_option process number args h (Some task) e =
-      let s = scene_at task (place_in process h) in
+      let s = scene_at task (slot_in process h) in
       let answer = answered now process number args (row_of known now process (call_of number) args s) s in
       let left = answered_move known.book now process number args (row_of known now process (call_of number) args s) s (row_of_leads process (call_of number) args s) in
-      moved_place known.book now h process task (place_of answer.1) answer.1.task e refl left.0 left.1
+      moved_slot known.book now h process task (slot_of answer.1) answer.1.task e refl left.0 left.1
 
   pub call_keep_names : (process number : ℕ) (args : List ℕ) (h : PartsRecord) → KeepsNames known.book now h (call known now process number args h).1
   call_keep_names process number args h = call_by_option process number args h (at process h.tasks) refl

@@ -20,7 +20,7 @@ use Rattle.host_wants.specs.Wanted.{Wanted}
 use Rattle.host_sockets.specs.Sockets.{SocketsRecord}
 use Rattle.file_calls.specs.declared.task.Task.{Task}
 use Rattle.host_calls.specs.Calls.{scene_at}
-use Rattle.host_calls.specs.Parts.{PartsRecord, place_in}
+use Rattle.host_calls.specs.Parts.{PartsRecord, slot_in}
 use Rattle.host_calls.specs.Ready.{seen}
 use Rattle.socket_laws.specs.Histories.{SocketsAct}
 use Rattle.pipe_laws.specs.Acts.{PipeAct}
@@ -113,7 +113,7 @@ pub record NamesMove (hosts : List Ip) (now : ℕ) (x y : PartsRecord) : Type 0 
 -- it was never told
 pub data ComesFrom (now : Time) (process k : ℕ) (before : Task) (h : PartsRecord) (w : Watch) : Type 0 where
   as_it_was : HasEntry k before.epolls w → ComesFrom now process k before h w
-  was_told : (v : Watch) → HasEntry k before.epolls v → w ≡ report_of v (seen now (scene_at before (place_in process h)) v.fd) → ComesFrom now process k before h w
+  was_told : (v : Watch) → HasEntry k before.epolls v → w ≡ report_of v (seen now (scene_at before (slot_in process h)) v.fd) → ComesFrom now process k before h w
   never_told : w.reported ≡ None → ComesFrom now process k before h w
 
 -- the entries of each process that was there before come from these

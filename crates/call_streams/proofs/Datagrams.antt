@@ -11,7 +11,7 @@ use Rattle.host_wants.specs.declared.error.Refusal.{Refusal}
 use Rattle.host_wants.specs.Refusals.{by_errno}
 use Rattle.host_sockets.specs.Sockets.{SocketsRecord}
 use Rattle.host_sockets.specs.Udp.{udp_in, udp_around, acted_udp, with_udp, sends_udp}
-use Rattle.tcp_streams.specs.Net.{IsVoid}
+use Rattle.tcp_streams.specs.Exchange.{IsVoid}
 
 packet_of : Packet → Result (Packet × SocketsRecord) Refusal → Packet
 packet_of p (Ok (q, t)) = q

@@ -31,7 +31,7 @@ use Rattle.call_parts.specs.Call.{call_of}
 use Rattle.host_calls.specs.Closing.{ends, closes, close, closed_by, closed_one, closed_below}
 use Rattle.file_calls.specs.Descriptors.{descriptor}
 use Rattle.host_calls.specs.Events.{arrives, alarmed, ended_by, ended}
-use Rattle.host_calls.specs.Parts.{PartsRecord, Place, place_in, Scene, local_of, plainly}
+use Rattle.host_calls.specs.Parts.{PartsRecord, Slot, slot_in, Scene, local_of, plainly}
 use Rattle.file_calls.specs.Files.{reads, writes}
 use Rattle.host_calls.specs.Sockets.{socket, bind, listen, accepts, getsockname, getpeername, sends_by, receives, getsockopt, shutdown}
 use Rattle.host_calls.specs.Starting.{task_starts}
@@ -131,12 +131,12 @@ module _ (hosts : List Ip) (flying : List Packet) where
       (λ entries e. answers hosts flying (sockets_at s) p.found (polled now p.at p.count entries s) (moves_none hosts flying (sockets_at s)))
 
   -- an end of a process
-  ended_move_by : (now : Time) (o : Option Task) (p : Place) → M (p.sockets, p.shared.outlet) ((ended_by now o p).sockets, (ended_by now o p).shared.outlet)
+  ended_move_by : (now : Time) (o : Option Task) (p : Slot) → M (p.sockets, p.shared.outlet) ((ended_by now o p).sockets, (ended_by now o p).shared.outlet)
   ended_move_by now None p = moves_none hosts flying (p.sockets, p.shared.outlet)
   ended_move_by now (Some task) p = all_ended_move now (scene_at task p)
 
   pub ended_moves : (now : Time) (process : ℕ) (h : PartsRecord) → M (sockets_in h) (sockets_in (ended now process h))
-  ended_moves now process h = let p = place_in process h in ended_move_by now p.task p
+  ended_moves now process h = let p = slot_in process h in ended_move_by now p.task p
 
   pub starts_move : (process : ℕ) (memory : Memory) (h : PartsRecord) → M (sockets_in h) (sockets_in (task_starts process memory h))
   starts_move process memory h = moves_none hosts flying (sockets_in h)
@@ -211,7 +211,7 @@ module _ (known : Known) (flying : List Packet) where
   row_of_moves now process None args s = refused known.book flying (sockets_at s) _
   row_of_moves now process (Some c) args s = row_moves now process c args s
 
-  call_move_by : (now : Time) (process number : ℕ) (args : List ℕ) (o : Option Task) (p : Place) → Moves known.book flying (p.sockets, p.shared.outlet) ((call_by known now process number args o p).1.sockets, (call_by known now process number args o p).1.shared.outlet)
+  call_move_by : (now : Time) (process number : ℕ) (args : List ℕ) (o : Option Task) (p : Slot) → Moves known.book flying (p.sockets, p.shared.outlet) ((call_by known now process number args o p).1.sockets, (call_by known now process number args o p).1.shared.outlet)
   call_move_by now process number args None p = moves_none known.book flying (p.sockets, p.shared.outlet)
   call_move_by now process number args (Some task) p =
       let s = scene_at task p in
@@ -219,4 +219,4 @@ module _ (known : Known) (flying : List Packet) where
 
   pub call_moves : (now : Time) (process number : ℕ) (args : List ℕ) (h : PartsRecord) → Moves known.book flying (sockets_in h) (sockets_in (call known now process number args h).1)
   call_moves now process number args h =
-      let p = place_in process h in call_move_by now process number args p.task p
+      let p = slot_in process h in call_move_by now process number args p.task p

@@ -44,7 +44,7 @@ use Rattle.host_calls.specs.Epoll.{wait_plan, epoll_waits}
 use Rattle.file_calls.specs.Eventfd.{eventfd2}
 use Rattle.file_calls.specs.Files.{fcntl, openat, pipe2, file_read_plan, reads, file_write_plan, writes}
 use Rattle.file_calls.specs.Guest.{getpid, brk, getrandom}
-use Rattle.host_calls.specs.Parts.{PartsRecord, PartsStand, Place, PlaceStands, place_of, place_in, with_place, Scene, scene, local_of, plainly}
+use Rattle.host_calls.specs.Parts.{PartsRecord, PartsStand, Slot, SlotStands, slot_of, slot_in, with_slot, Scene, scene, local_of, plainly}
 use Rattle.call_parts.specs.Polling.{max_entries}
 use Rattle.host_calls.specs.Polling.{poll_plan, polls}
 use Rattle.file_calls.specs.Scene.{Local, Is, negative}
@@ -237,32 +237,32 @@ abbrev pub call_scene : Known → Time → ℕ → ℕ → List ℕ → Scene �
 call_scene known now process number args s = answered now process number args (row_of known now process (call_of number) args s) s
 
 -- a process that isn't there has no calls
-abbrev pub scene_at : Task → Place → Scene
+abbrev pub scene_at : Task → Slot → Scene
 scene_at task p = record { task = task; shared = p.shared; sockets = p.sockets }
 
-abbrev pub in_place : Answer × Scene → Answer × Place
-in_place (a, s) = (a, place_of s)
+abbrev pub in_slot : Answer × Scene → Answer × Slot
+in_slot (a, s) = (a, slot_of s)
 
-abbrev pub call_by : Known → Time → ℕ → ℕ → List ℕ → Option Task → Place → Answer × Place
+abbrev pub call_by : Known → Time → ℕ → ℕ → List ℕ → Option Task → Slot → Answer × Slot
 call_by known now process number args None p = (answer.Value (negative Enosys), p)
-call_by known now process number args (Some task) p = in_place (call_scene known now process number args (scene_at task p))
+call_by known now process number args (Some task) p = in_slot (call_scene known now process number args (scene_at task p))
 
-abbrev pub call_place : Known → Time → ℕ → ℕ → List ℕ → Place → Answer × Place
-call_place known now process number args p = call_by known now process number args p.task p
+abbrev pub call_slot : Known → Time → ℕ → ℕ → List ℕ → Slot → Answer × Slot
+call_slot known now process number args p = call_by known now process number args p.task p
 
-abbrev pub answers_in : ℕ → Answer × Place → PartsRecord → Answer × PartsRecord
-answers_in process (a, p) h = (a, with_place process p h)
+abbrev pub answers_in : ℕ → Answer × Slot → PartsRecord → Answer × PartsRecord
+answers_in process (a, p) h = (a, with_slot process p h)
 
 -- a system call of a process: its answer, and what it leaves
 abbrev pub call : Known → Time → ℕ → ℕ → List ℕ → PartsRecord → Answer × PartsRecord
-call known now process number args h = answers_in process (call_place known now process number args (place_in process h)) h
+call known now process number args h = answers_in process (call_slot known now process number args (slot_in process h)) h
 
 -- what the code answers and leaves
 abbrev pub PartsCalled : Answer × PartsRecord → Answer → Parts → Type 0
 PartsCalled (b, h) a c = (a ≡ b) × PartsStand c h
 
-abbrev pub PlaceCalled : Answer × Place → Answer → Option Task → Shared → Sockets → Type 0
-PlaceCalled (b, p) a task shared c = (a ≡ b) × PlaceStands task shared c p
+abbrev pub SlotCalled : Answer × Slot → Answer → Option Task → Shared → Sockets → Type 0
+SlotCalled (b, p) a task shared c = (a ≡ b) × SlotStands task shared c p
 
 abbrev pub SceneCalled : Answer × Scene → Answer → Task → Shared → Sockets → Type 0
 SceneCalled (b, s) a task shared c = (a ≡ b) × ((task ≡ s.task) × ((shared ≡ s.shared) × Stand c s.sockets))
@@ -283,13 +283,13 @@ abbrev pub answers_scene : Known → Time → Why → Scene → Bool
 answers_scene known now why s = not (waits known now (call_of why.number) why.args s)
 
 -- a process that isn't there waits for nothing
-abbrev pub answers_by : Known → Time → Why → Option Task → Place → Bool
+abbrev pub answers_by : Known → Time → Why → Option Task → Slot → Bool
 answers_by known now why None p = true
 answers_by known now why (Some task) p = answers_scene known now why (scene_at task p)
 
-abbrev pub answers_place : Known → Time → Why → Place → Bool
-answers_place known now why p = answers_by known now why p.task p
+abbrev pub answers_slot : Known → Time → Why → Slot → Bool
+answers_slot known now why p = answers_by known now why p.task p
 
 -- whether the kept call of a process would answer
 abbrev pub answers : Known → Time → ℕ → Why → PartsRecord → Bool
-answers known now process why h = answers_place known now why (place_in process h)
+answers known now process why h = answers_slot known now why (slot_in process h)

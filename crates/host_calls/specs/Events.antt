@@ -13,7 +13,7 @@ use Rattle.host_calls.specs.declared.all.Parts.{Parts}
 use Rattle.file_calls.specs.declared.task.Task.{Task}
 use Rattle.host_calls.specs.Calls.{scene_at, cleared}
 use Rattle.host_calls.specs.Closing.{all_closed}
-use Rattle.host_calls.specs.Parts.{PartsRecord, PartsStand, Place, place_of, place_in, with_place}
+use Rattle.host_calls.specs.Parts.{PartsRecord, PartsStand, Slot, slot_of, slot_in, with_slot}
 use Rattle.file_calls.specs.Times.{rings}
 
 -- what the sockets leave
@@ -34,15 +34,15 @@ alarmed now (Timer k) serial h = record h { shared = rings now k serial h.shared
 alarmed now (Socket k) serial h = with_wanted (alarm_comes now k serial h.sockets h.shared.outlet) h
 
 -- the end of a process, if it is there: its descriptors are closed, and it waits in no call
-abbrev pub ended_by : Time → Option Task → Place → Place
+abbrev pub ended_by : Time → Option Task → Slot → Slot
 ended_by now None p = p
-ended_by now (Some task) p = place_of (all_closed now (cleared (scene_at task p)))
+ended_by now (Some task) p = slot_of (all_closed now (cleared (scene_at task p)))
 
-abbrev pub ended_place : Time → Place → Place
-ended_place now p = ended_by now p.task p
+abbrev pub ended_slot : Time → Slot → Slot
+ended_slot now p = ended_by now p.task p
 
 abbrev pub ended : Time → ℕ → PartsRecord → PartsRecord
-ended now process h = with_place process (ended_place now (place_in process h)) h
+ended now process h = with_slot process (ended_slot now (slot_in process h)) h
 
 -- what the code answers and leaves
 abbrev pub Delivered : Act × PartsRecord → Act → Parts → Type 0

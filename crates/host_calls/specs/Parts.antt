@@ -25,22 +25,22 @@ pub record PartsStand (c : Parts) (h : PartsRecord) : Type 0 where
   pub shared : c.shared ≡ h.shared
   pub sockets : Stand c.sockets h.sockets
 
--- the place of a process: the process, if it is there, what it shares, and the sockets
-pub record Place : Type 0 where
+-- the slot of a process: the process, if it is there, what it shares, and the sockets
+pub record Slot : Type 0 where
   pub task : Option Task
   pub shared : Shared
   pub sockets : SocketsRecord
 
-abbrev pub place : Option Task → Shared → SocketsRecord → Place
-place task shared t = record { task = task; shared = shared; sockets = t }
+abbrev pub slot : Option Task → Shared → SocketsRecord → Slot
+slot task shared t = record { task = task; shared = shared; sockets = t }
 
-abbrev pub place_in : ℕ → PartsRecord → Place
-place_in process h = place (at process h.tasks) h.shared h.sockets
+abbrev pub slot_in : ℕ → PartsRecord → Slot
+slot_in process h = slot (at process h.tasks) h.shared h.sockets
 
-abbrev pub with_place : ℕ → Place → PartsRecord → PartsRecord
-with_place process p h = record { tasks = slice_set h.tasks process p.task; shared = p.shared; sockets = p.sockets }
+abbrev pub with_slot : ℕ → Slot → PartsRecord → PartsRecord
+with_slot process p h = record { tasks = slice_set h.tasks process p.task; shared = p.shared; sockets = p.sockets }
 
-pub record PlaceStands (left : Option Task) (common : Shared) (c : Sockets) (p : Place) : Type 0 where
+pub record SlotStands (left : Option Task) (common : Shared) (c : Sockets) (p : Slot) : Type 0 where
   pub task : left ≡ p.task
   pub shared : common ≡ p.shared
   pub sockets : Stand c p.sockets
@@ -79,8 +79,8 @@ Answers row old t new c (Ok a) = (after : SocketsRecord) × ((row ≡ Ok (a, sce
 Answers row old t new c (Err (error.Refused r)) = (row ≡ Err r) × (Stand c t × (new ≡ old))
 Answers row old t new c (Err error.NoMemory) = Unit {0}
 
-abbrev pub place_of : Scene → Place
-place_of s = place (Some s.task) s.shared s.sockets
+abbrev pub slot_of : Scene → Slot
+slot_of s = slot (Some s.task) s.shared s.sockets
 
 -- what can't be refused leaves this
 abbrev pub Leaves : Scene → Local → Sockets → Type 0

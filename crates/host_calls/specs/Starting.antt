@@ -13,7 +13,7 @@ use Rattle.file_calls.specs.declared.task.Task.{Task}
 use Rattle.file_calls.specs.declared.task.Shared.{Shared}
 use Rattle.file_calls.specs.Scene.{Local}
 use Rattle.file_calls.specs.Descriptors.{opens}
-use Rattle.host_calls.specs.Parts.{PartsRecord, place, with_place}
+use Rattle.host_calls.specs.Parts.{PartsRecord, slot, with_slot}
 
 abbrev pub fresh_task : Memory → Task
 fresh_task memory = record { table = map.empty; epolls = []; memory = memory; kept = None }
@@ -28,7 +28,7 @@ starts memory shared =
 
 -- a process starts with a memory
 abbrev pub started : ℕ → Local → PartsRecord → PartsRecord
-started process (task, shared) h = with_place process (place (Some task) shared h.sockets) h
+started process (task, shared) h = with_slot process (slot (Some task) shared h.sockets) h
 
 abbrev pub task_starts : ℕ → Memory → PartsRecord → PartsRecord
 task_starts process memory h = started process (starts memory h.shared) h

@@ -6,7 +6,7 @@ ghost use Rattle.host_sockets.specs.Sockets.{SocketsRecord};
 ghost use Rattle.host_sockets.specs.StandsFor.{Stand};
 ghost use Rattle.host_calls.specs.Calls as spec;
 ghost use Rattle.host_calls.specs.Parts.{Answers, PartsRecord, PartsStand, scene, Scene, local_of};
-ghost use Rattle.host_calls.specs.Parts.{place as place_at, Leaves};
+ghost use Rattle.host_calls.specs.Parts.{slot as slot_at, Leaves};
 ghost use Rattle.host_calls.specs.inside.Stage.{Stays, Acts, Called, local_on, scene_on};
 ghost use Rattle.file_calls.specs.Scene.{Does};
 
@@ -265,20 +265,20 @@ fn why_of(number: u32, args: [u32; 6], deadline: Option<Time>) -> Why
     }
 }
 
-fn call_place(
+fn call_slot(
     known: &Known,
     now: Time,
     process: u32,
     number: u32,
     args: [u32; 6],
-    place: &mut Option<Task>,
+    slot: &mut Option<Task>,
     shared: &mut Shared,
     sockets: &mut Sockets,
 ) -> Result<Answer, NoMemory>
     requires { now.nanos ≤ latest_time }
-    ensures { IfOk result (λ a. (t : SocketsRecord) → Stand sockets.old t → spec.PlaceCalled (spec.call_place known.now now process number args (place_at place.old shared.old t)) a place.new shared.new sockets.new) }
+    ensures { IfOk result (λ a. (t : SocketsRecord) → Stand sockets.old t → spec.SlotCalled (spec.call_slot known.now now process number args (slot_at slot.old shared.old t)) a slot.new shared.new sockets.new) }
 {
-    match place {
+    match slot {
         Some(task) => {
             let mut stage = Stage {
                 known,
@@ -311,7 +311,7 @@ pub fn do_call(
     requires process { process < vec_len parts.old.tasks }
     ensures { IfOk result (λ a. (h : PartsRecord) → PartsStand parts.old h → spec.PartsCalled (spec.call known.now now process number args h) a parts.new) }
 {
-    call_place(
+    call_slot(
         known,
         now,
         process,

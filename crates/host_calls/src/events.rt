@@ -5,8 +5,8 @@ ghost use Rattle.sim_base.specs.Units.{latest_time};
 ghost use Rattle.host_sockets.specs.Sockets.{SocketsRecord};
 ghost use Rattle.host_sockets.specs.StandsFor.{Stand};
 ghost use Rattle.host_calls.specs.Events as spec;
-ghost use Rattle.host_calls.specs.Parts.{PartsRecord, PartsStand, PlaceStands};
-ghost use Rattle.host_calls.specs.Parts.{place as place_at};
+ghost use Rattle.host_calls.specs.Parts.{PartsRecord, PartsStand, SlotStands};
+ghost use Rattle.host_calls.specs.Parts.{slot as slot_at};
 
 use crate::all::Parts;
 use crate::calling::end_task;
@@ -38,15 +38,15 @@ pub fn alarm(parts: &mut Parts, now: Time, target: AlarmTarget, serial: u64) -> 
     }
 }
 
-fn end_place(
+fn end_slot(
     now: Time,
-    place: &mut Option<Task>,
+    slot: &mut Option<Task>,
     shared: &mut Shared,
     sockets: &mut Sockets,
 ) -> Result<(), NoMemory>
-    ensures { OnOk result ((t : SocketsRecord) → Stand sockets.old t → PlaceStands place.new shared.new sockets.new (spec.ended_place now (place_at place.old shared.old t))) }
+    ensures { OnOk result ((t : SocketsRecord) → Stand sockets.old t → SlotStands slot.new shared.new sockets.new (spec.ended_slot now (slot_at slot.old shared.old t))) }
 {
-    match place {
+    match slot {
         Some(task) => end_task(now, task, shared, sockets),
         None => Ok(()),
     }
@@ -58,7 +58,7 @@ pub fn close_all(parts: &mut Parts, now: Time, process: u32) -> Result<(), NoMem
     requires process { process < vec_len parts.old.tasks }
     ensures { OnOk result ((h : PartsRecord) → PartsStand parts.old h → PartsStand parts.new (spec.ended now process h)) }
 {
-    end_place(
+    end_slot(
         now,
         &mut parts.tasks[process as usize],
         &mut parts.shared,

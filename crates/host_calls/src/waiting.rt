@@ -6,7 +6,7 @@ ghost use Rattle.host_sockets.specs.Sockets.{SocketsRecord};
 ghost use Rattle.host_sockets.specs.StandsFor.{Stand};
 ghost use Rattle.host_calls.specs.Calls as spec;
 ghost use Rattle.host_calls.specs.Parts.{PartsRecord, PartsStand};
-ghost use Rattle.host_calls.specs.Parts.{place as place_at};
+ghost use Rattle.host_calls.specs.Parts.{slot as slot_at};
 ghost use Rattle.host_calls.specs.inside.Stage.{Sees};
 
 use crate::all::Parts;
@@ -46,18 +46,18 @@ impl View<'_> {
     }
 }
 
-fn answers_place(
+fn answers_slot(
     known: &Known,
     now: Time,
     why: &Why,
-    place: &Option<Task>,
+    slot: &Option<Task>,
     shared: &Shared,
     sockets: &Sockets,
 ) -> bool
     requires { now.nanos ≤ latest_time }
-    ensures { (t : SocketsRecord) → Stand sockets.now t → result ≡ spec.answers_place known.now now why.now (place_at place.now shared.now t) }
+    ensures { (t : SocketsRecord) → Stand sockets.now t → result ≡ spec.answers_slot known.now now why.now (slot_at slot.now shared.now t) }
 {
-    match place {
+    match slot {
         Some(task) => {
             let view = View {
                 known,
@@ -79,7 +79,7 @@ pub fn answers_now(parts: &Parts, known: &Known, now: Time, process: u32, why: &
     requires process { process < vec_len parts.now.tasks }
     ensures { (h : PartsRecord) → PartsStand parts.now h → result ≡ spec.answers known.now now process why.now h }
 {
-    answers_place(
+    answers_slot(
         known,
         now,
         why,

@@ -10,11 +10,11 @@ use Rattle.net_routes.specs.declared.cost.Cost.{Cost}
 use Rattle.net_routes.specs.declared.error.RouteError.{RouteError}
 use Rattle.net_routes.specs.declared.error.RouteError.TheVariants as errors
 use Rattle.net_routes.specs.declared.finding.Search.{Search}
-use Rattle.net_routes.specs.declared.net.Net.{Net}
+use Rattle.net_routes.specs.declared.adjacency.Adjacency.{Adjacency}
 use Rattle.net_routes.specs.inside.Found.{IsRowOrLack, IsFound, IsToSearch, AreSearched, IsStopped, rows_found, oks, most_at_once, AreFound, IsRefused}
 use Rattle.net_routes.specs.inside.RouteRows.{IsRouteRow, NamesLack}
 use Rattle.net_routes.specs.Needed.{IsAt, IsNeeded}
-use Rattle.net_routes.specs.inside.Net.{IsNet}
+use Rattle.net_routes.specs.inside.Adjacency.{IsAdjacency}
 use Rattle.net_routes.specs.Routes.{IsRefusal}
 use Rattle.net_routes.specs.Table.{IsRouteIfAny, IsTable}
 use Rattle.net_routes.specs.inside.RouteMaps.{route_at, map_of}
@@ -24,8 +24,8 @@ use Rattle.net_routes.proofs.RouteLemmas.{HasRoutesFrom, HasRoutesBelow, route_p
 use Rattle.net_routes.proofs.RouteMapLemmas.{routes_kept, kept_between}
 
 -- all searches were made
-abbrev pub AllFound : Net → List ℕ → List ℕ → Bool → List Search → Type 0
-AllFound net nodes stops shortest ss = (k : ℕ) (e : Search) → k < length ss → IsFound net nodes stops shortest (slice_index_or ss k e).from (slice_index_or ss k e).row
+abbrev pub AllFound : Adjacency → List ℕ → List ℕ → Bool → List Search → Type 0
+AllFound adjacency nodes stops shortest ss = (k : ℕ) (e : Search) → k < length ss → IsFound adjacency nodes stops shortest (slice_index_or ss k e).from (slice_index_or ss k e).row
 
 -- what stands past the end
 abbrev none : Result (List (Option Cost)) RouteError
@@ -37,12 +37,12 @@ unmade = record { from = 0; row = none }
 not_both : (row : List (Option Cost)) (e : RouteError) → ◌≡◌ {A = Result (List (Option Cost)) RouteError} (Ok row) (Err e) → ⊥
 not_both row e h = cc
 
-row_from_found : (g : Graph) (net : Net) (nodes stops : List ℕ) (shortest : Bool) (from : ℕ) (r : Result (List (Option Cost)) RouteError) (row : List (Option Cost)) → IsNet (hops g) net.places net.rows.items
-    → IsFound net nodes stops shortest from r → r ≡ Ok row → HasRoutesFrom g shortest nodes stops from row
-row_from_found g net nodes stops shortest from r row is found ok =
+row_from_found : (g : Graph) (adjacency : Adjacency) (nodes stops : List ℕ) (shortest : Bool) (from : ℕ) (r : Result (List (Option Cost)) RouteError) (row : List (Option Cost)) → IsAdjacency (hops g) adjacency.places adjacency.rows.items
+    → IsFound adjacency nodes stops shortest from r → r ≡ Ok row → HasRoutesFrom g shortest nodes stops from row
+row_from_found g adjacency nodes stops shortest from r row is found ok =
     ⊎_elim
     (λ (err : r ≡ Err errors.NoMemory). absurd (not_both row errors.NoMemory (sym ok ∙ err)))
-    (λ (w : IsRowOrLack net nodes stops shortest from r).
+    (λ (w : IsRowOrLack adjacency nodes stops shortest from r).
     let P : Result (List (Option Cost)) RouteError → Type 0 = λ q. IfOk q (IsRouteRow nodes stops from w.found) in
     routes_from g shortest nodes stops from w.found row (w.best (hops g) is) (subst P ok w.ok))
     found
@@ -58,23 +58,23 @@ ok_at rows rest found i parts lt =
 
 -- WHAT WAS FOUND OF THE FIRST NODES
 
-pub below_found : (g : Graph) (net : Net) (nodes stops : List ℕ) (shortest : Bool) (rows : List (List (Option Cost))) (rest found : List (Result (List (Option Cost)) RouteError)) (count : ℕ)
-    → IsNet (hops g) net.places net.rows.items → AreFound net nodes stops shortest found → oks rows ++ rest ≡ found → count ≤ length rows → HasRoutesBelow count g shortest nodes stops rows
-below_found g net nodes stops shortest rows rest found count is are parts few i from lt at =
+pub below_found : (g : Graph) (adjacency : Adjacency) (nodes stops : List ℕ) (shortest : Bool) (rows : List (List (Option Cost))) (rest found : List (Result (List (Option Cost)) RouteError)) (count : ℕ)
+    → IsAdjacency (hops g) adjacency.places adjacency.rows.items → AreFound adjacency nodes stops shortest found → oks rows ++ rest ≡ found → count ≤ length rows → HasRoutesBelow count g shortest nodes stops rows
+below_found g adjacency nodes stops shortest rows rest found count is are parts few i from lt at =
     let within : i < length found = omega (arith, lt, few, as_many_oks rows, length-append (oks rows) rest, ap (λ (l : List (Result (List (Option Cost)) RouteError)). length l) parts) in
-    row_from_found g net nodes stops shortest from (get_or found i none) (get_or rows i []) is (are.each i from none within at) (ok_at rows rest found i parts (omega (arith, lt, few)))
+    row_from_found g adjacency nodes stops shortest from (get_or found i none) (get_or rows i []) is (are.each i from none within at) (ok_at rows rest found i parts (omega (arith, lt, few)))
 
 err_same : (a b : RouteError) → ◌≡◌ {A = Result (List (Option Cost)) RouteError} (Err a) (Err b) → a ≡ b
 err_same a b h = cc
 
-refused_at : (g : Graph) (net : Net) (nodes stops : List ℕ) (shortest : Bool) (r : Result (List (Option Cost)) RouteError) (rows : List (List (Option Cost))) (i from : ℕ) (e : RouteError) → IsStrictlyIncreasing stops → ((id : ℕ) → Contains stops id ↔ Contains nodes id)
-    → IsNet (hops g) net.places net.rows.items → IsAt stops i from → HasRoutesBelow i g shortest nodes stops rows → IsFound net nodes stops shortest from r → r ≡ Err e → IsRefusal g shortest nodes e
-refused_at g net nodes stops shortest r rows i from e up all is at below found err =
+refused_at : (g : Graph) (adjacency : Adjacency) (nodes stops : List ℕ) (shortest : Bool) (r : Result (List (Option Cost)) RouteError) (rows : List (List (Option Cost))) (i from : ℕ) (e : RouteError) → IsStrictlyIncreasing stops → ((id : ℕ) → Contains stops id ↔ Contains nodes id)
+    → IsAdjacency (hops g) adjacency.places adjacency.rows.items → IsAt stops i from → HasRoutesBelow i g shortest nodes stops rows → IsFound adjacency nodes stops shortest from r → r ≡ Err e → IsRefusal g shortest nodes e
+refused_at g adjacency nodes stops shortest r rows i from e up all is at below found err =
     ⊎_elim
     (λ (memory : r ≡ Err errors.NoMemory).
     let same : ◌≡◌ {A = Result (List (Option Cost)) RouteError} (Err e) (Err errors.NoMemory) = sym err ∙ memory in
     let P : RouteError → Type 0 = λ x. IsRefusal g shortest nodes x in subst P (sym (err_same e errors.NoMemory same)) tt)
-    (λ (w : IsRowOrLack net nodes stops shortest from r).
+    (λ (w : IsRowOrLack adjacency nodes stops shortest from r).
     let P : Result (List (Option Cost)) RouteError → Type 0 = λ q. IfErr q (NamesLack nodes stops from w.found) in
     refused g shortest nodes stops rows i from w.found e up all at below (w.best (hops g) is) (subst P err w.err))
     found
@@ -89,13 +89,13 @@ same_from (o ∷ os) (n ∷ ns) long same =
     ∙ ap (λ (l : List ℕ). o.from ∷ l) (same_from os ns (omega (arith, long)) (λ k e lt. same (suc k) e (omega (arith, lt))))
 
 -- all searches are from the same nodes, and were made
-pub all_made : (net : Net) (nodes stops : List ℕ) (shortest : Bool) (old new : List Search) → AreSearched net nodes stops shortest old new
-    → AllFound net nodes stops shortest new × (map (λ (s : Search). s.from) new ≡ map (λ (s : Search). s.from) old)
-all_made net nodes stops shortest old new h =
+pub all_made : (adjacency : Adjacency) (nodes stops : List ℕ) (shortest : Bool) (old new : List Search) → AreSearched adjacency nodes stops shortest old new
+    → AllFound adjacency nodes stops shortest new × (map (λ (s : Search). s.from) new ≡ map (λ (s : Search). s.from) old)
+all_made adjacency nodes stops shortest old new h =
     (λ k e lt. (h.1 k e (omega (arith, lt, h.0))).found, same_from old new h.0 (λ k e lt. (h.1 k e lt).from))
 
 -- the searches from the next nodes were made
-module _ (net : Net) (nodes stops part : List ℕ) (shortest : Bool) (before : List (Result (List (Option Cost)) RouteError)) (ss : List Search) (from_part : map (λ (s : Search). s.from) ss ≡ part) (next : part ≡ take most_at_once (drop (length before) stops)) where
+module _ (adjacency : Adjacency) (nodes stops part : List ℕ) (shortest : Bool) (before : List (Result (List (Option Cost)) RouteError)) (ss : List Search) (from_part : map (λ (s : Search). s.from) ss ≡ part) (next : part ≡ take most_at_once (drop (length before) stops)) where
   as_many : length ss ≡ length part
   as_many = sym (length-map ss (λ (s : Search). s.from)) ∙ ap (λ (l : List ℕ). length l) from_part
 
@@ -117,25 +117,25 @@ module _ (net : Net) (nodes stops part : List ℕ) (shortest : Bool) (before : L
   row_at : (k : ℕ) (d : Result (List (Option Cost)) RouteError) → k < length ss → get_or (rows_found ss) k d ≡ (get_or ss k unmade).row
   row_at k d lt = get_or-map (λ (s : Search). s.row) ss k unmade d lt
 
-  found_later : AllFound net nodes stops shortest ss → (i from : ℕ) (d : Result (List (Option Cost)) RouteError) → length before ≤ i → i < length before + length ss → IsAt stops i from → IsFound net nodes stops shortest from (get_or (before ++ rows_found ss) i d)
+  found_later : AllFound adjacency nodes stops shortest ss → (i from : ℕ) (d : Result (List (Option Cost)) RouteError) → length before ≤ i → i < length before + length ss → IsAt stops i from → IsFound adjacency nodes stops shortest from (get_or (before ++ rows_found ss) i d)
   found_later made i from d ge lt at =
       let k : ℕ = i - length before in
       let within : k < length ss = omega (arith, ge, lt) in
       let place : length before + k ≡ i = omega (arith, ge) in
       let its : (get_or ss k unmade).from ≡ from = from_at k within ∙ ap (λ (n : ℕ). get_or stops n 0) place ∙ at.is in
       let row : get_or (before ++ rows_found ss) i d ≡ (get_or ss k unmade).row = get_or-append_right before (rows_found ss) (length before) i d refl ge ∙ row_at k d within in
-      let P : ℕ → Type 0 = λ n. IsFound net nodes stops shortest n (get_or ss k unmade).row in
-      let Q : Result (List (Option Cost)) RouteError → Type 0 = λ r. IsFound net nodes stops shortest from r in
+      let P : ℕ → Type 0 = λ n. IsFound adjacency nodes stops shortest n (get_or ss k unmade).row in
+      let Q : Result (List (Option Cost)) RouteError → Type 0 = λ r. IsFound adjacency nodes stops shortest from r in
       subst Q (sym row) (subst P its (made k unmade within))
 
-  pub found_more : length before ≤ length stops → AreFound net nodes stops shortest before → AllFound net nodes stops shortest ss → AreFound net nodes stops shortest (before ++ rows_found ss)
+  pub found_more : length before ≤ length stops → AreFound adjacency nodes stops shortest before → AllFound adjacency nodes stops shortest ss → AreFound adjacency nodes stops shortest (before ++ rows_found ss)
   found_more short are made =
       let size : length (before ++ rows_found ss) ≡ length before + length ss = omega (arith, length-append before (rows_found ss), length-map ss (λ (s : Search). s.row)) in
       record {
         few = omega (arith, size, as_many, part_short, short);
         each = λ i from d lt at. ⊎_elim
             (λ (first : i < length before).
-            let Q : Result (List (Option Cost)) RouteError → Type 0 = λ r. IsFound net nodes stops shortest from r in
+            let Q : Result (List (Option Cost)) RouteError → Type 0 = λ r. IsFound adjacency nodes stops shortest from r in
             subst Q (sym (get_or_append_left before (rows_found ss) d i first)) (are.each i from d first at))
             (λ (later : length before ≤ i). found_later made i from d later (omega (arith, lt, size)) at)
             (cases_lt i (length before));
@@ -165,10 +165,10 @@ to_search nodes stops part n ss all next same k d lt =
 -- REFUSALS
 
 -- the error is that of the node behind the rows
-refused_behind : (g : Graph) (net : Net) (nodes stops : List ℕ) (shortest : Bool) (found : List (Result (List (Option Cost)) RouteError)) (e : RouteError) → IsStrictlyIncreasing stops → ((id : ℕ) → Contains stops id ↔ Contains nodes id)
-    → IsNet (hops g) net.places net.rows.items → AreFound net nodes stops shortest found → IsStopped found e → IsRefusal g shortest nodes e
-refused_behind g net nodes stops shortest found e up all is are (IsStopped.want memory) = let P : RouteError → Type 0 = λ x. IsRefusal g shortest nodes x in subst P (sym memory) tt
-refused_behind g net nodes stops shortest found e up all is are (IsStopped.behind rows rest parts) =
+refused_behind : (g : Graph) (adjacency : Adjacency) (nodes stops : List ℕ) (shortest : Bool) (found : List (Result (List (Option Cost)) RouteError)) (e : RouteError) → IsStrictlyIncreasing stops → ((id : ℕ) → Contains stops id ↔ Contains nodes id)
+    → IsAdjacency (hops g) adjacency.places adjacency.rows.items → AreFound adjacency nodes stops shortest found → IsStopped found e → IsRefusal g shortest nodes e
+refused_behind g adjacency nodes stops shortest found e up all is are (IsStopped.want memory) = let P : RouteError → Type 0 = λ x. IsRefusal g shortest nodes x in subst P (sym memory) tt
+refused_behind g adjacency nodes stops shortest found e up all is are (IsStopped.behind rows rest parts) =
     let i : ℕ = length rows in
     let long : length (oks rows) ≡ i = as_many_oks rows in
     let there : i < length found = omega (arith, long, length-append (oks rows) (Err e ∷ rest), ap (λ (l : List (Result (List (Option Cost)) RouteError)). length l) parts) in
@@ -178,30 +178,30 @@ refused_behind g net nodes stops shortest found e up all is are (IsStopped.behin
     ∙ get_or-append_seam (oks rows) (Err e) rest none in
     let from : ℕ = get_or stops i 0 in
     let at : IsAt stops i from = record { within = omega (arith, there, are.few); is = refl } in
-    refused_at g net nodes stops shortest (get_or found i none) rows i from e up all is at
-    (below_found g net nodes stops shortest rows (Err e ∷ rest) found i is are parts (omega arith)) (are.each i from none there at) err
+    refused_at g adjacency nodes stops shortest (get_or found i none) rows i from e up all is at
+    (below_found g adjacency nodes stops shortest rows (Err e ∷ rest) found i is are parts (omega arith)) (are.each i from none there at) err
 
-pub refused_in : (g : Graph) (net : Net) (nodes stops : List ℕ) (shortest : Bool) (e : RouteError) → IsStrictlyIncreasing stops → ((id : ℕ) → Contains stops id ↔ Contains nodes id)
-    → IsNet (hops g) net.places net.rows.items → IsRefused net nodes stops shortest e → IsRefusal g shortest nodes e
-refused_in g net nodes stops shortest e up all is h = refused_behind g net nodes stops shortest h.found e up all is h.are h.stopped
+pub refused_in : (g : Graph) (adjacency : Adjacency) (nodes stops : List ℕ) (shortest : Bool) (e : RouteError) → IsStrictlyIncreasing stops → ((id : ℕ) → Contains stops id ↔ Contains nodes id)
+    → IsAdjacency (hops g) adjacency.places adjacency.rows.items → IsRefused adjacency nodes stops shortest e → IsRefusal g shortest nodes e
+refused_in g adjacency nodes stops shortest e up all is h = refused_behind g adjacency nodes stops shortest h.found e up all is h.are h.stopped
 
 -- THE TABLE
 
 -- these rows were found from all stops
-pub record AreRowsFound (g : Graph) (net : Net) (nodes stops ids : List ℕ) (shortest : Bool) (rows : List (List (Option Cost))) : Type 0 where
+pub record AreRowsFound (g : Graph) (adjacency : Adjacency) (nodes stops ids : List ℕ) (shortest : Bool) (rows : List (List (Option Cost))) : Type 0 where
   pub is : ids ≡ stops
-  pub net_is : IsNet (hops g) net.places net.rows.items
-  pub found : AreFound net nodes ids shortest (oks rows)
+  pub adjacency_is : IsAdjacency (hops g) adjacency.places adjacency.rows.items
+  pub found : AreFound adjacency nodes ids shortest (oks rows)
   pub all : length rows ≡ length ids
 
-module _ (g : Graph) (net : Net) (nodes stops ids : List ℕ) (shortest : Bool) (rows : List (List (Option Cost))) (h : AreRowsFound g net nodes stops ids shortest rows) where
+module _ (g : Graph) (adjacency : Adjacency) (nodes stops ids : List ℕ) (shortest : Bool) (rows : List (List (Option Cost))) (h : AreRowsFound g adjacency nodes stops ids shortest rows) where
   as_many_rows : length rows ≡ length stops
   as_many_rows = h.all ∙ ap (λ (l : List ℕ). length l) h.is
 
   all_below : HasRoutesBelow (length rows) g shortest nodes stops rows
   all_below =
       let B : List ℕ → Type 0 = λ xs. HasRoutesBelow (length rows) g shortest nodes xs rows in
-      subst B h.is (below_found g net nodes ids shortest rows [] (oks rows) (length rows) h.net_is h.found (append-nil (oks rows)) (omega arith))
+      subst B h.is (below_found g adjacency nodes ids shortest rows [] (oks rows) (length rows) h.adjacency_is h.found (append-nil (oks rows)) (omega arith))
 
   -- each route that hosts need is there
   pub whole_found : IsStrictlyIncreasing stops → ((id : ℕ) → Contains stops id ↔ Contains nodes id) → (a b : ℕ) → IsNeeded nodes a b → (c : Cost) × (route_at stops rows a b ≡ Some c) × IsRoute g shortest a b c

@@ -8,7 +8,7 @@ use Rattle.gml_graph.specs.Edges.{IsEdge, AreEdges}
 use Rattle.net_routes.specs.declared.hop.Hop.{Hop}
 use Rattle.net_routes.specs.Cost.{IsHopCost}
 use Rattle.net_routes.specs.Walk.{along, against, ways, AreHops}
-use Rattle.net_routes.specs.inside.Net.{ends_of}
+use Rattle.net_routes.specs.inside.Adjacency.{ends_of}
 use Rattle.net_routes.proofs.ListLemmas.{contains_cases}
 
 -- one edge more

@@ -7,7 +7,7 @@ pub mod SearchLemmas
 pub mod HopLemmas
 pub mod PlaceLemmas
 pub mod ArcLemmas
-pub mod NetLemmas
+pub mod AdjacencyLemmas
 pub mod RouteRowLemmas
 pub mod RouteLemmas
 pub mod RouteMapLemmas

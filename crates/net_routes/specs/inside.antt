@@ -1,7 +1,7 @@
 -- what stands while routes are searched, and how rows are kept
 pub mod Found
 pub mod KeptRows
-pub mod Net
+pub mod Adjacency
 pub mod Numbers
 pub mod Path
 pub mod Places

@@ -5,9 +5,9 @@ ghost use Rattle.net_routes.specs.inside.Found.{most_at_once, IsReady, AreStops,
 ghost use Rattle.net_routes.specs.Routes.{HasRoutes, AreRoutes, AreSound, IsRefusal};
 ghost use Rattle.net_routes.specs.Table.{IsTable};
 
+use crate::adjacency::Adjacency;
 use crate::error::RouteError;
 use crate::hop::hops_of;
-use crate::net::Net;
 use crate::node_ids::NodeIds;
 use crate::route_row::{RouteRow, row_from};
 use crate::route_rows::RouteRows;
@@ -30,36 +30,36 @@ pub(crate) struct Search {
 /// The costs of the routes from a node, or the first that hosts need and that isn't there.
 fn find_row(
     alloc: Global,
-    net: &Net,
+    adjacency: &Adjacency,
     nodes: &[u32],
     stops: &[u32],
     shortest: bool,
     from: u32,
 ) -> Result<RouteRow, RouteError>
-    requires net { IsReady net.now }
+    requires adjacency { IsReady adjacency.now }
     requires from { Contains nodes.now from }
     requires stops { AreStops nodes.now stops.now }
-    ensures { IsFound net.now nodes.now stops.now shortest from result }
+    ensures { IsFound adjacency.now nodes.now stops.now shortest from result }
 {
-    let costs = net.costs_from(alloc, from, shortest)?;
-    row_from(alloc, net, costs.as_slice(), nodes, stops, from)
+    let costs = adjacency.costs_from(alloc, from, shortest)?;
+    row_from(alloc, adjacency, costs.as_slice(), nodes, stops, from)
 }
 
 /// Makes a search.
 fn make_search(
     alloc: Global,
-    net: &Net,
+    adjacency: &Adjacency,
     nodes: &[u32],
     stops: &[u32],
     shortest: bool,
     each: &mut Search,
 )
-    requires net { IsReady net.now }
+    requires adjacency { IsReady adjacency.now }
     requires from { IsToSearch nodes.now each.old }
     requires stops { AreStops nodes.now stops.now }
-    ensures { IsSearched net.now nodes.now stops.now shortest each.old each.new }
+    ensures { IsSearched adjacency.now nodes.now stops.now shortest each.old each.new }
 {
-    each.row = find_row(alloc, net, nodes, stops, shortest, each.from);
+    each.row = find_row(alloc, adjacency, nodes, stops, shortest, each.from);
 }
 
 /// Makes all searches, in so many threads side by side. Where no thread can be made, they come one
@@ -67,24 +67,24 @@ fn make_search(
 fn make_searches<R: Threads + Sync>(
     rt: &R,
     alloc: Global,
-    net: &Net,
+    adjacency: &Adjacency,
     nodes: &[u32],
     stops: &[u32],
     shortest: bool,
     workers: u32,
     searches: &mut [Search],
 )
-    requires net { IsReady net.now }
+    requires adjacency { IsReady adjacency.now }
     requires stops { AreStops nodes.now stops.now }
     requires workers { 0 < workers }
     requires from { All (IsToSearch nodes.now) searches.old }
-    ensures { AreSearched net.now nodes.now stops.now shortest searches.old searches.new }
+    ensures { AreSearched adjacency.now nodes.now stops.now shortest searches.old searches.new }
 {
     for_each_mut(
         rt,
         searches,
         workers as usize,
-        &|_, each| { make_search(alloc, net, nodes, stops, shortest, each) },
+        &|_, each| { make_search(alloc, adjacency, nodes, stops, shortest, each) },
     );
 }
 
@@ -92,23 +92,23 @@ fn make_searches<R: Threads + Sync>(
 fn search_all<R: Threads + Sync>(
     rt: &R,
     alloc: Global,
-    net: &Net,
+    adjacency: &Adjacency,
     nodes: &[u32],
     stops: &[u32],
     shortest: bool,
     workers: u32,
     searches: &mut Vec<Search>,
 )
-    requires net { IsReady net.now }
+    requires adjacency { IsReady adjacency.now }
     requires stops { AreStops nodes.now stops.now }
     requires workers { 0 < workers }
     requires from { All (IsToSearch nodes.now) searches.old.items }
-    ensures { AreSearched net.now nodes.now stops.now shortest searches.old.items searches.new.items }
+    ensures { AreSearched adjacency.now nodes.now stops.now shortest searches.old.items searches.new.items }
 {
     make_searches(
         rt,
         alloc,
-        net,
+        adjacency,
         nodes,
         stops,
         shortest,
@@ -158,27 +158,27 @@ fn add_found(alloc: Global, searches: Vec<Search>, rows: &mut RouteRows) -> Resu
 fn find_next<R: Threads + Sync>(
     rt: &R,
     alloc: Global,
-    net: &Net,
+    adjacency: &Adjacency,
     nodes: &[u32],
     stops: &[u32],
     shortest: bool,
     workers: u32,
     rows: &mut RouteRows,
 ) -> Result<(), RouteError>
-    requires net { IsReady net.now }
+    requires adjacency { IsReady adjacency.now }
     requires stops { AreStops nodes.now stops.now }
     requires workers { 0 < workers }
     requires left { length rows.old < length stops.now }
-    requires found { AreFound net.now nodes.now stops.now shortest (oks rows.old) }
-    ensures ok { OnOk result (AreFound net.now nodes.now stops.now shortest (oks rows.new)) }
+    requires found { AreFound adjacency.now nodes.now stops.now shortest (oks rows.old) }
+    ensures ok { OnOk result (AreFound adjacency.now nodes.now stops.now shortest (oks rows.new)) }
     ensures more { OnOk result (length rows.old < length rows.new) }
-    ensures err { IfErr result (IsRefused net.now nodes.now stops.now shortest) }
+    ensures err { IfErr result (IsRefused adjacency.now nodes.now stops.now shortest) }
 {
     let mut searches = searches_from(alloc, next_stops(stops, rows.len()))?;
     search_all(
         rt,
         alloc,
-        net,
+        adjacency,
         nodes,
         stops,
         shortest,
@@ -192,23 +192,25 @@ fn find_next<R: Threads + Sync>(
 fn find_rows<R: Threads + Sync>(
     rt: &R,
     alloc: Global,
-    net: &Net,
+    adjacency: &Adjacency,
     nodes: &[u32],
     stops: &[u32],
     shortest: bool,
     workers: u32,
 ) -> Result<RouteRows, RouteError>
-    requires net { IsReady net.now }
+    requires adjacency { IsReady adjacency.now }
     requires stops { AreStops nodes.now stops.now }
     requires workers { 0 < workers }
     ensures ok { IfOk result
-        (λ rows. AreFound net.now nodes.now stops.now shortest (oks rows)) }
+        (λ rows. AreFound adjacency.now nodes.now stops.now shortest (oks rows)) }
     ensures all { IfOk result (λ rows. length rows ≡ length stops.now) }
-    ensures err { IfErr result (IsRefused net.now nodes.now stops.now shortest) }
+    ensures err { IfErr result (IsRefused adjacency.now nodes.now stops.now shortest) }
 {
     let mut rows = RouteRows::new(alloc);
     while rows.len() < stops.len() {
-        find_next(rt, alloc, net, nodes, stops, shortest, workers, &mut rows)?;
+        find_next(
+            rt, alloc, adjacency, nodes, stops, shortest, workers, &mut rows,
+        )?;
     }
     rows.shrink(alloc);
     Ok(rows)
@@ -235,9 +237,9 @@ pub fn routes<R: Threads + Sync>(
     ensures err { IfErr result (IsRefusal graph.now shortest nodes.now) }
 {
     let hops = hops_of(alloc, graph)?;
-    let net = Net::new(alloc, hops.as_slice())?;
+    let adjacency = Adjacency::new(alloc, hops.as_slice())?;
     let stops = NodeIds::from(Vec::from_slice(alloc, nodes)?);
     let ids = stops.as_slice();
-    let rows = find_rows(rt, alloc, &net, nodes, ids, shortest, workers)?;
+    let rows = find_rows(rt, alloc, &adjacency, nodes, ids, shortest, workers)?;
     Ok(Routes { stops, rows })
 }

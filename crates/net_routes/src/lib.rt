@@ -1,6 +1,7 @@
 //! Routes between the nodes of hosts, over the graph of a network.
 #![tactic(auto)]
 
+mod adjacency;
 mod arc;
 mod arcs;
 mod cost;
@@ -10,7 +11,6 @@ mod hop;
 mod kept;
 mod kept_row;
 pub mod laws;
-mod net;
 mod node_ids;
 mod numbered_costs;
 mod route_row;

@@ -2,13 +2,13 @@
 
 ghost use Rattle.std.specs.Prelude.{◌≡◌, count_by, ◌==◌, length, Contains, All, MatchBool, IfOk, IfErr, OnErr, IsSome, None, slice_index_or};
 ghost use Rattle.net_routes.specs.Needed.{IsNeeded};
-ghost use Rattle.net_routes.specs.inside.Net.{cost_to};
+ghost use Rattle.net_routes.specs.inside.Adjacency.{cost_to};
 ghost use Rattle.net_routes.specs.inside.RouteRows.{IsRouteRow, NamesLack};
 
+use crate::adjacency::Adjacency;
 use crate::cost::Cost;
 use crate::error::RouteError;
 use crate::kept::Kept;
-use crate::net::Net;
 use std::alloc::Global;
 use std::marker::Model;
 
@@ -65,7 +65,7 @@ pub(crate) fn is_needed(nodes: &[u32], from: u32, to: u32) -> bool
 
 /// The cost that was found for a node. One that hosts need has to be there.
 fn found_cost(
-    net: &Net,
+    adjacency: &Adjacency,
     costs: &[Option<Cost>],
     nodes: &[u32],
     from: u32,
@@ -73,13 +73,13 @@ fn found_cost(
 ) -> Result<Option<Cost>, RouteError>
     requires from { Contains nodes.now from }
     requires to { Contains nodes.now to }
-    ensures ok { IfOk result (λ c. c ≡ cost_to net.now.places costs.now to) }
+    ensures ok { IfOk result (λ c. c ≡ cost_to adjacency.now.places costs.now to) }
     ensures whole { IfOk result (λ c. IsNeeded nodes.now from to → IsSome c) }
     ensures which { IfErr result (λ e. e ≡ RouteError.NoRoute from to) }
     ensures needed { OnErr result (IsNeeded nodes.now from to) }
-    ensures none { OnErr result (cost_to net.now.places costs.now to ≡ None) }
+    ensures none { OnErr result (cost_to adjacency.now.places costs.now to ≡ None) }
 {
-    match net.cost_to(costs, to) {
+    match adjacency.cost_to(costs, to) {
         Some(cost) => Ok(Some(cost)),
         None => {
             if is_needed(nodes, from, to) {
@@ -93,7 +93,7 @@ fn found_cost(
 /// The costs of the routes from a node, or the first that hosts need and that isn't there.
 pub fn row_from(
     alloc: Global,
-    net: &Net,
+    adjacency: &Adjacency,
     costs: &[Option<Cost>],
     nodes: &[u32],
     stops: &[u32],
@@ -102,13 +102,13 @@ pub fn row_from(
     requires from { Contains nodes.now from }
     requires stops { All (Contains nodes.now) stops.now }
     ensures ok { IfOk result
-        (IsRouteRow nodes.now stops.now from (cost_to net.now.places costs.now)) }
+        (IsRouteRow nodes.now stops.now from (cost_to adjacency.now.places costs.now)) }
     ensures err { IfErr result
-        (NamesLack nodes.now stops.now from (cost_to net.now.places costs.now)) }
+        (NamesLack nodes.now stops.now from (cost_to adjacency.now.places costs.now)) }
 {
     let mut row = Vec::with_capacity(alloc, stops.len())?;
     for to in stops {
-        row.push(Kept::from(found_cost(net, costs, nodes, from, *to)?))?;
+        row.push(Kept::from(found_cost(adjacency, costs, nodes, from, *to)?))?;
     }
     Ok(RouteRow { costs: row })
 }

@@ -19,7 +19,7 @@ use Rattle.host_link.specs.declared.outbox.Outbox.{Outbox}
 use Rattle.run_files.specs.Written.{written_in}
 use Rattle.host_state.specs.HostRecord.{HostRecord}
 use Rattle.world_order.proofs.Homes.{some_is, get_set_same, get_set_other, below_get}
-use Rattle.round_lookahead.specs.declared.workers.task.Task.{Task}
+use Rattle.round_lookahead.specs.declared.workers.host_task.HostTask.{HostTask}
 use Rattle.round_lookahead.specs.declared.workers.worked.Done.{Done}
 use Rattle.round_lookahead.specs.declared.workers.worked.Worked.{Worked}
 use Rattle.round_lookahead.specs.declared.world.in_place.Alone.{Alone}
@@ -70,10 +70,10 @@ holding v ys few = record { ptr = v.ptr; len = length ys; cap = length ys; alloc
 host_is : (h : HostId) (number : ℕ) → h.index ≡ number → h ≡ host_of number
 host_is h number same = ap host_of same
 
-none_run : (net : Net) (end : ℕ) (tasks : List Task) (rec : ℕ → HostRecord) (spill : List Parcel) → spill ≡ [] → HasRunFirst net end tasks rec 0 [] spill
+none_run : (net : Net) (end : ℕ) (tasks : List HostTask) (rec : ℕ → HostRecord) (spill : List Parcel) → spill ≡ [] → HasRunFirst net end tasks rec 0 [] spill
 none_run net end tasks rec spill none = record { jobs = []; done = tt; in_order = refl; spilled = none }
 
-one_more : (net : Net) (end : ℕ) (tasks : List Task) (rec : ℕ → HostRecord) (count : ℕ) (ds : List Done) (old new : List Parcel) (t : Task) (d : Done) (parcels : List Parcel)
+one_more : (net : Net) (end : ℕ) (tasks : List HostTask) (rec : ℕ → HostRecord) (count : ℕ) (ds : List Done) (old new : List Parcel) (t : HostTask) (d : Done) (parcels : List Parcel)
     → slice_get tasks count ≡ Some t → t.id.index ≡ count → HasRun net end t (rec t.id.index) d parcels
     → new ≡ old ++ parcels → HasRunFirst net end tasks rec count ds old → HasRunFirst net end tasks rec (suc count) (ds ++ d ∷ []) new
 one_more net end tasks rec count ds old new t d parcels dealt is run spill w =
@@ -87,7 +87,7 @@ one_more net end tasks rec count ds old new t d parcels dealt is run spill w =
 
 -- ---- in their places
 
-pub none_placed : (net : Net) (end : ℕ) (tasks : List Task) (a : Alone) → written_in a.outputs ≡ [] → a.lines.items ≡ [] → a.spill.items ≡ [] → a.due ≡ None
+pub none_placed : (net : Net) (end : ℕ) (tasks : List HostTask) (a : Alone) → written_in a.outputs ≡ [] → a.lines.items ≡ [] → a.spill.items ≡ [] → a.due ≡ None
     → AreRunInPlace net end tasks 0 tasks a
 none_placed net end tasks a outputs lines spill due = record {
   ds = [];
@@ -102,7 +102,7 @@ none_placed net end tasks a outputs lines spill due = record {
   due = subst (IsLeastDue []) (sym due) refl;
 }
 
-module _ (net : Net) (end : ℕ) (old now : List Task) (i : ℕ) (a : Alone) (t : Task) (are : AreTasksOf net old) (here : slice_get now i ≡ Some t) (r : AreRunInPlace net end old i now a) where
+module _ (net : Net) (end : ℕ) (old now : List HostTask) (i : ℕ) (a : Alone) (t : HostTask) (are : AreTasksOf net old) (here : slice_get now i ≡ Some t) (r : AreRunInPlace net end old i now a) where
   -- it is the host of its place, as it was
   before : slice_get old i ≡ Some t
   before = sym (r.later i (omega arith)) ∙ here
@@ -114,7 +114,7 @@ module _ (net : Net) (end : ℕ) (old now : List Task) (i : ℕ) (a : Alone) (t 
   may_run_here = let h = are.each i t before in (h.0, subst (λ (n : ℕ). IsTask net n t h.0) (sym numbered) h.1)
 
   -- one host more was run in its place
-  placed_more : (b : Alone) (t' : Task) (d : Done) (ps : List Parcel) → d.id ≡ t.id → t'.id ≡ d.id → t'.host ≡ d.host → t'.parcels.items ≡ []
+  placed_more : (b : Alone) (t' : HostTask) (d : Done) (ps : List Parcel) → d.id ≡ t.id → t'.id ≡ d.id → t'.host ≡ d.host → t'.parcels.items ≡ []
       → ((h : HostRecord) → IsTask net t.id.index t h → HasRun net end t h d ps) → written_in b.outputs ≡ written_in a.outputs ++ d.outputs.items ∷ [] → b.lines.items ≡ a.lines.items ++ d.lines.items
       → b.spill.items ≡ a.spill.items ++ ps → b.due ≡ lesser_due a.due t'.due → AreRunInPlace net end old (suc i) (slice_set now i t') b
   placed_more b t' d ps id same host emptied ran outputs lines spill due =
@@ -146,7 +146,7 @@ module _ (net : Net) (end : ℕ) (old now : List Task) (i : ℕ) (a : Alone) (t 
             (subst (λ (x : Box Host Global). IsLeastDue x.value.queue t'.due) host (least_of t'.host.value.queue t'.due t'.told));
       }
 
-  pub kept_more : (b : Alone) (t' : Task) (out : Outbox) → t'.id ≡ t.id → t'.parcels.items ≡ [] → ((h : HostRecord) → IsTask net t.id.index t h → HasRun net end t h (done_of t' out) out.parcels.items)
+  pub kept_more : (b : Alone) (t' : HostTask) (out : Outbox) → t'.id ≡ t.id → t'.parcels.items ≡ [] → ((h : HostRecord) → IsTask net t.id.index t h → HasRun net end t h (done_of t' out) out.parcels.items)
       → HasKept t'.due out a b → AreRunInPlace net end old (suc i) (slice_set now i t') b
   kept_more b t' out id emptied ran kept =
       placed_more b t' (done_of t' out) out.parcels.items id refl refl emptied ran kept.outputs kept.lines kept.spill kept.due
@@ -173,7 +173,7 @@ joined-none : (works : List Worked) → joined (no_jobs works) ≡ []
 joined-none [] = refl
 joined-none (w ∷ works) = joined-none works
 
-idle_works : (net : Net) (end : ℕ) (tasks : List Task) (rec : ℕ → HostRecord) (worker : ℕ) (works : List Worked) → AreIdle works → AreWorks net end tasks rec worker (no_jobs works) works
+idle_works : (net : Net) (end : ℕ) (tasks : List HostTask) (rec : ℕ → HostRecord) (worker : ℕ) (works : List Worked) → AreIdle works → AreWorks net end tasks rec worker (no_jobs works) works
 idle_works net end tasks rec worker [] idle = tt
 idle_works net end tasks rec worker (w ∷ works) idle = (subst (AreDone net end worker tasks rec []) (sym idle.0) tt, idle_works net end tasks rec (suc worker) works idle.2)
 
@@ -226,7 +226,7 @@ empty_rows n rows e = record {
 all_contained : (xs ys : List Parcel) → xs ≡ ys → All (λ (p : Parcel). Contains ys p) xs
 all_contained xs ys same = subst (λ (l : List Parcel). All (λ (p : Parcel). Contains l p) xs) same (λ k d lt. Contains-get_or xs k d lt)
 
-pub alone_round : (net : Net) (end : ℕ) (tasks : List Task) (rec : ℕ → HostRecord) (first : Worked) (works : List Worked) (rows : List (Vec Boxed Global))
+pub alone_round : (net : Net) (end : ℕ) (tasks : List HostTask) (rec : ℕ → HostRecord) (first : Worked) (works : List Worked) (rows : List (Vec Boxed Global))
     → HasRunFirst net end tasks rec (length tasks) first.done.items first.spill.items → AreIdle works → lists_of rows ≡ replicate (length tasks) [] → IsRound net end tasks rec (first ∷ works) rows
 alone_round net end tasks rec first works rows worked idle empty =
     let jobs : List (List HostJob) = worked.jobs ∷ no_jobs works in

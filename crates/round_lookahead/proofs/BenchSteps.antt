@@ -2,11 +2,11 @@
 use Rattle.std.proofs.Common.{◌≡◌, ℕ, zero, suc, ◌+◌, ◌<◌, List, [], ◌∷◌, ◌++◌, map, length, get_or, refl, ap, arith}
 use Rattle.steal_workers.specs.SeatViews.{SeatView}
 use Rattle.round_lookahead.specs.declared.workers.bench.Bench.{Bench}
-use Rattle.round_lookahead.specs.declared.workers.task.Task.{Task}
+use Rattle.round_lookahead.specs.declared.workers.host_task.HostTask.{HostTask}
 
 pub seats_more : (bs : List Bench) (b : Bench) → map (λ (b : Bench). b.seat) (bs ++ b ∷ []) ≡ map (λ (b : Bench). b.seat) bs ++ b.seat ∷ []
 seats_more [] b = refl
-seats_more (x ∷ bs) b = ap (λ (l : List (SeatView Task)). x.seat ∷ l) (seats_more bs b)
+seats_more (x ∷ bs) b = ap (λ (l : List (SeatView HostTask)). x.seat ∷ l) (seats_more bs b)
 
 pub workers_more : (n : ℕ) (bs : List Bench) (b : Bench) → ((k : ℕ) (e : Bench) → k < length bs → (get_or bs k e).worker ≡ n + k) → b.worker ≡ n + length bs
     → (k : ℕ) (e : Bench) → k < length (bs ++ b ∷ []) → (get_or (bs ++ b ∷ []) k e).worker ≡ n + k

@@ -14,8 +14,8 @@ use Rattle.host_inbox.specs.contracts.carrier.Carrier.TheInside as carrier_insid
 use Rattle.host_inbox.specs.contracts.put.Put as put
 use Rattle.sim_base.specs.contracts.event.Parcel as parcel
 use Rattle.sim_base.proofs.event.Parcel.TheSendSync as parcels
-use Rattle.round_lookahead.specs.contracts.workers.task.Task as task
-use Rattle.round_lookahead.proofs.workers.task.Task.TheSendSync as tasks
+use Rattle.round_lookahead.specs.contracts.workers.host_task.HostTask as task
+use Rattle.round_lookahead.proofs.workers.host_task.HostTask.TheSendSync as tasks
 use Rattle.round_lookahead.proofs.workers.worked.Worked.TheSendSync as works
 use Rattle.round_lookahead.specs.contracts.workers.bench.Bench as bench
 

@@ -22,7 +22,7 @@ use Rattle.host_state.specs.Running.{Owns}
 use Rattle.world_order.specs.Steps.{has_due}
 use Rattle.world_order.specs.WholeTurns.{unfired, rests}
 use Rattle.world_order.proofs.Members.{IsIn, Each, Each_from_All, All_from_Each}
-use Rattle.round_lookahead.specs.declared.workers.task.Task.{Task}
+use Rattle.round_lookahead.specs.declared.workers.host_task.HostTask.{HostTask}
 use Rattle.round_lookahead.specs.declared.workers.worked.Done.{Done}
 use Rattle.round_lookahead.specs.inside.Arrivals.{Boxed, arrivals}
 use Rattle.round_lookahead.specs.inside.Dues.{first_due}
@@ -90,12 +90,12 @@ late_by end es (Some x) least = (
       late_is end x.nanos (omega (arith, is, late))),
 )
 
-pub idle_where : (end : ℕ) (t : Task) → t.parcels.items ≡ [] → (is_before end t.due ≡ false) ↔ IsIdle end t
+pub idle_where : (end : ℕ) (t : HostTask) → t.parcels.items ≡ [] → (is_before end t.due ≡ false) ↔ IsIdle end t
 idle_where end t none =
     let both = late_by end t.host.value.queue t.due (least_of t.host.value.queue t.due t.told) in
     (λ h. record { none = none; later = both.0 h }, λ idle. both.1 idle.later)
 
-pub none_wait : (t : Task) (b : Bool) → b ≡ (vec_len t.parcels == 0) → b ≡ true → t.parcels.items ≡ []
+pub none_wait : (t : HostTask) (b : Bool) → b ≡ (vec_len t.parcels == 0) → b ≡ true → t.parcels.items ≡ []
 none_wait t b is empty = nil_from_length t.parcels.items (let none : vec_len t.parcels ≡ 0 = eqb-true (vec_len t.parcels) 0 (sym is ∙ empty) in omega (arith, none, t.parcels.ok.0))
 
 -- ---- a host with nothing to do
@@ -105,7 +105,7 @@ none_due end [] late = refl
 none_due end (e ∷ es) late = ap (λ (b : Bool). b || has_due end es) (late_is end e.key.due.nanos (late e (inl refl))) ∙ none_due end es (λ x h. late x (inr h))
 
 -- it was run where it stays as it is
-pub idle_run : (net : Net) (end : ℕ) (t : Task) (h : HostRecord) (d : Done) → IsTask net t.id.index t h → IsIdle end t
+pub idle_run : (net : Net) (end : ℕ) (t : HostTask) (h : HostRecord) (d : Done) → IsTask net t.id.index t h → IsIdle end t
     → d.id ≡ t.id → d.host ≡ t.host → d.lines.items ≡ [] → d.outputs.items ≡ [] → HasRun net end t h d []
 idle_run net end t h d is idle id host lines outputs =
     let q : List Event = t.host.value.queue in
@@ -140,15 +140,15 @@ all_late end (e ∷ es) none =
     (λ (rest : IsIn x es). all_late end es parts.1 x rest)
     h
 
-no_parcels : (t : Task) → nat_lt 0 (length t.parcels.items) ≡ false → t.parcels.items ≡ []
+no_parcels : (t : HostTask) → nat_lt 0 (length t.parcels.items) ≡ false → t.parcels.items ≡ []
 no_parcels t none = nil_from_length t.parcels.items (let zero : length t.parcels.items ≤ 0 = late_from (length t.parcels.items) 0 none in omega arith)
 
-idle_tested : (end : ℕ) (t : Task) → is_busy end t ≡ false → IsIdle end t
+idle_tested : (end : ℕ) (t : HostTask) → is_busy end t ≡ false → IsIdle end t
 idle_tested end t idle =
     let parts = or_parts (nat_lt 0 (length t.parcels.items)) (has_due end t.host.value.queue) idle in
     record { none = no_parcels t parts.0; later = All_from_Each (IsLate end) t.host.value.queue (all_late end t.host.value.queue parts.1) }
 
-tested_idle : (end : ℕ) (t : Task) → IsIdle end t → is_busy end t ≡ false
+tested_idle : (end : ℕ) (t : HostTask) → IsIdle end t → is_busy end t ≡ false
 tested_idle end t idle =
     or_from (nat_lt 0 (length t.parcels.items)) (has_due end t.host.value.queue)
     (ap (λ (bs : List Boxed). nat_lt 0 (length bs)) idle.none)
@@ -159,13 +159,13 @@ false_both false b there back = sym (there refl)
 false_both true false there back = back refl
 false_both true true there back = refl
 
-busy_by : (end : ℕ) (t : Task) (b : Bool) → (b ≡ false) ↔ IsIdle end t → b ≡ is_busy end t
+busy_by : (end : ℕ) (t : HostTask) (b : Bool) → (b ≡ false) ↔ IsIdle end t → b ≡ is_busy end t
 busy_by end t b is = false_both b (is_busy end t) (λ h. tested_idle end t (is.0 h)) (λ h. is.1 (idle_tested end t h))
 
-pub one_busy_more : (end : ℕ) (ts : List Task) (i : ℕ) (t : Task) (b : Bool) → i < length ts → t ≡ get_or ts i t → (b ≡ false) ↔ IsIdle end t → b ≡ true
+pub one_busy_more : (end : ℕ) (ts : List HostTask) (i : ℕ) (t : HostTask) (b : Bool) → i < length ts → t ≡ get_or ts i t → (b ≡ false) ↔ IsIdle end t → b ≡ true
     → count_by (is_busy end) (take (i + 1) ts) ≡ count_by (is_busy end) (take i ts) + 1
 one_busy_more end ts i t b below at is busy = count_by_more_yes (is_busy end) ts i t below (ap (is_busy end) (sym at) ∙ sym (busy_by end t b is) ∙ busy)
 
-pub no_busy_more : (end : ℕ) (ts : List Task) (i : ℕ) (t : Task) (b : Bool) → i < length ts → t ≡ get_or ts i t → (b ≡ false) ↔ IsIdle end t → b ≡ false
+pub no_busy_more : (end : ℕ) (ts : List HostTask) (i : ℕ) (t : HostTask) (b : Bool) → i < length ts → t ≡ get_or ts i t → (b ≡ false) ↔ IsIdle end t → b ≡ false
     → count_by (is_busy end) (take (i + 1) ts) ≡ count_by (is_busy end) (take i ts)
 no_busy_more end ts i t b below at is idle = count_by_more_no (is_busy end) ts i t below (ap (is_busy end) (sym at) ∙ sym (busy_by end t b is) ∙ idle)

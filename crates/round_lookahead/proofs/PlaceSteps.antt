@@ -24,7 +24,7 @@ use Rattle.world_order.specs.Round.{in_order}
 use Rattle.world_order.specs.World as order
 use Rattle.world_order.proofs.Fires.{get-map}
 use Rattle.world_order.proofs.Homes.{some_is, get_below, below_get}
-use Rattle.round_lookahead.specs.declared.workers.task.Task.{Task}
+use Rattle.round_lookahead.specs.declared.workers.host_task.HostTask.{HostTask}
 use Rattle.round_lookahead.specs.declared.workers.worked.Done.{Done}
 use Rattle.round_lookahead.specs.declared.workers.worked.Worked.{Worked}
 use Rattle.round_lookahead.specs.declared.world.in_place.Alone.{Alone}
@@ -46,8 +46,8 @@ use Rattle.round_lookahead.proofs.WaitSteps.{due_with, held_waits, waits_with}
 
 -- ---- the same hosts
 
-pub same_length : (old new : List Task) → IsSameHosts old new → length new ≡ length old
-same_length old new same = sym (length-map new (λ (t : Task). t.id)) ∙ ap length same.ids ∙ length-map old (λ (t : Task). t.id)
+pub same_length : (old new : List HostTask) → IsSameHosts old new → length new ≡ length old
+same_length old new same = sym (length-map new (λ (t : HostTask). t.id)) ∙ ap length same.ids ∙ length-map old (λ (t : HostTask). t.id)
 
 -- one place changes, and what is seen of it stays
 pub map-set : {X Y : Type 0} (f : X → Y) (xs : List X) (i : ℕ) (x y : X) → slice_get xs i ≡ Some x → f y ≡ f x → map f (slice_set xs i y) ≡ map f xs
@@ -68,24 +68,24 @@ get_or_at (x ∷ xs) (suc i) d below = get_or_at xs i d (omega arith)
 
 -- ---- a packet waits
 
-pub same_hosts : (ts : List Task) (i : ℕ) (d t : Task) → i < length ts → t.id ≡ (get_or ts i d).id → t.host ≡ (get_or ts i d).host → IsSameHosts ts (slice_set ts i t)
+pub same_hosts : (ts : List HostTask) (i : ℕ) (d t : HostTask) → i < length ts → t.id ≡ (get_or ts i d).id → t.host ≡ (get_or ts i d).host → IsSameHosts ts (slice_set ts i t)
 same_hosts ts i d t below id host = record {
-  ids = map-set (λ (x : Task). x.id) ts i (get_or ts i d) t (get_or_at ts i d below) id;
-  hosts = map-set (λ (x : Task). x.host) ts i (get_or ts i d) t (get_or_at ts i d below) host;
+  ids = map-set (λ (x : HostTask). x.id) ts i (get_or ts i d) t (get_or_at ts i d below) id;
+  hosts = map-set (λ (x : HostTask). x.host) ts i (get_or ts i d) t (get_or_at ts i d below) host;
 }
 
-module _ (ts : List Task) (i : ℕ) (d t : Task) (boxed : Boxed) (below : i < length ts) (more : t.parcels.items ≡ (get_or ts i d).parcels.items ++ boxed ∷ []) where
+module _ (ts : List HostTask) (i : ℕ) (d t : HostTask) (boxed : Boxed) (below : i < length ts) (more : t.parcels.items ≡ (get_or ts i d).parcels.items ++ boxed ∷ []) where
   abbrev row : Vec Boxed Global
   row = (get_or ts i d).parcels
 
   at_row : slice_get (rows_of ts) i ≡ Some row
-  at_row = get-map (λ (x : Task). x.parcels) ts i (get_or ts i d) (get_or_at ts i d below)
+  at_row = get-map (λ (x : HostTask). x.parcels) ts i (get_or ts i d) (get_or_at ts i d below)
 
   within : i < length (rows_of ts)
   within = below_get (rows_of ts) i row at_row
 
   set_is : rows_of (slice_set ts i t) ≡ slice_set (rows_of ts) i t.parcels
-  set_is = set_map (λ (x : Task). x.parcels) ts i t
+  set_is = set_map (λ (x : HostTask). x.parcels) ts i t
 
   pub waits_more : (p : Parcel) → boxed.value ≡ p → IsPermutation (row_arrivals (rows_of (slice_set ts i t))) (parcel_event p ∷ row_arrivals (rows_of ts))
   waits_more p is = subst (λ (l : List (Vec Boxed Global)). IsPermutation (row_arrivals l) (parcel_event p ∷ row_arrivals (rows_of ts))) (sym set_is)
@@ -111,15 +111,15 @@ module _ (ts : List Task) (i : ℕ) (d t : Task) (boxed : Boxed) (below : i < le
 
 -- ---- no packet waits
 
-none_wait : (ts : List Task) → ((k : ℕ) (t : Task) → slice_get ts k ≡ Some t → t.parcels.items ≡ []) → row_arrivals (rows_of ts) ≡ []
+none_wait : (ts : List HostTask) → ((k : ℕ) (t : HostTask) → slice_get ts k ≡ Some t → t.parcels.items ≡ []) → row_arrivals (rows_of ts) ≡ []
 none_wait [] none = refl
 none_wait (t ∷ ts) none = ap (λ (l : List Boxed). arrivals l ++ row_arrivals (rows_of ts)) (none 0 t refl) ∙ none_wait ts (λ k u at. none (suc k) u at)
 
-none_away : (net : Net) (ts : List Task) → ((k : ℕ) (t : Task) → slice_get ts k ≡ Some t → t.parcels.items ≡ []) → AreAtHome net (rows_of ts)
+none_away : (net : Net) (ts : List HostTask) → ((k : ℕ) (t : HostTask) → slice_get ts k ≡ Some t → t.parcels.items ≡ []) → AreAtHome net (rows_of ts)
 none_away net ts none i row below =
-    let long = length-map ts (λ (t : Task). t.parcels) in
+    let long = length-map ts (λ (t : HostTask). t.parcels) in
     let found = get_below ts i (omega arith) in
-    let is : get_or (rows_of ts) i row ≡ found.0.parcels = get_or_is (rows_of ts) i found.0.parcels row (get-map (λ (t : Task). t.parcels) ts i found.0 found.1) in
+    let is : get_or (rows_of ts) i row ≡ found.0.parcels = get_or_is (rows_of ts) i found.0.parcels row (get-map (λ (t : HostTask). t.parcels) ts i found.0 found.1) in
     let empty : (get_or (rows_of ts) i row).items ≡ [] = ap (λ (v : Vec Boxed Global). v.items) is ∙ none i found.0 found.1 in
     λ k b within. absurd (omega (arith, within, ap (λ (l : List Boxed). length l) empty))
 
@@ -147,8 +147,8 @@ took_idle (suc n) w done = ap (λ (l : List Done). ids_of l ∷ took_by (replica
 
 -- ---- the round
 
-module _ (net : Net) (end : ℕ) (old now : List Task) (a : Alone) (r : AreRunInPlace net end old (length old) now a) (few : length old ≤ 65536) (others : ℕ)
-    (new : Vec Task Global) (p : Gained) (same : IsSameHosts now new.items)
+module _ (net : Net) (end : ℕ) (old now : List HostTask) (a : Alone) (r : AreRunInPlace net end old (length old) now a) (few : length old ≤ 65536) (others : ℕ)
+    (new : Vec HostTask Global) (p : Gained) (same : IsSameHosts now new.items)
     (moved : IsPermutation (row_arrivals (rows_of new.items)) (map parcel_event a.spill.items ++ row_arrivals (rows_of now)))
     (theirs : (n : Net) → All (λ (q : Parcel). home n (parcel_event q) ≡ q.to.index) a.spill.items → AreAtHome n (rows_of now) → AreAtHome n (rows_of new.items))
     (outputs_are : p.outputs ≡ a.outputs) (sorted : (all : List (order.Logged Line)) → a.lines.items ≡ map kept_line all → p.lines.items ≡ map kept_line (in_order all))
@@ -184,14 +184,14 @@ module _ (net : Net) (end : ℕ) (old now : List Task) (a : Alone) (r : AreRunIn
   no_rows zero = refl
   no_rows (suc n) = no_rows n
 
-  emptied : (k : ℕ) (t : Task) → slice_get now k ≡ Some t → t.parcels.items ≡ []
+  emptied : (k : ℕ) (t : HostTask) → slice_get now k ≡ Some t → t.parcels.items ≡ []
   emptied k t at =
       let below = below_get now k t at in
       let all = r.all in
       let many = r.many in
       let d = get_below r.ds k (omega arith) in
       let placed = r.places k d.0 d.1 in
-      ap (λ (x : Task). x.parcels.items) (some_is t placed.task (sym at ∙ placed.at)) ∙ placed.emptied
+      ap (λ (x : HostTask). x.parcels.items) (some_is t placed.task (sym at ∙ placed.at)) ∙ placed.emptied
 
   count : length new.items ≡ length old
   count = same_length now new.items same ∙ r.all
@@ -207,9 +207,9 @@ module _ (net : Net) (end : ℕ) (old now : List Task) (a : Alone) (r : AreRunIn
       let long = count in
       let found = get_below new.items k (omega arith) in
       let id : found.0.id ≡ placed.task.id = some_is found.0.id placed.task.id
-      (sym (get-map (λ (t : Task). t.id) new.items k found.0 found.1) ∙ ap (λ (l : List HostId). slice_get l k) same.ids ∙ get-map (λ (t : Task). t.id) now k placed.task placed.at) in
+      (sym (get-map (λ (t : HostTask). t.id) new.items k found.0 found.1) ∙ ap (λ (l : List HostId). slice_get l k) same.ids ∙ get-map (λ (t : HostTask). t.id) now k placed.task placed.at) in
       let host : found.0.host ≡ placed.task.host = some_is found.0.host placed.task.host
-      (sym (get-map (λ (t : Task). t.host) new.items k found.0 found.1) ∙ ap (λ (l : List (Box Host Global)). slice_get l k) same.hosts ∙ get-map (λ (t : Task). t.host) now k placed.task placed.at) in
+      (sym (get-map (λ (t : HostTask). t.host) new.items k found.0 found.1) ∙ ap (λ (l : List (Box Host Global)). slice_get l k) same.hosts ∙ get-map (λ (t : HostTask). t.host) now k placed.task placed.at) in
       record {
         task = found.0;
         at = ap (slice_get new.items) placed.number ∙ found.1;
@@ -245,38 +245,38 @@ module _ (net : Net) (end : ℕ) (old now : List Task) (a : Alone) (r : AreRunIn
   }
 
 -- as the code has it
-pub whole_round : (net : Net) (end workers : ℕ) (old : Vec Task Global) (opened : List Task) → opened ≡ old.items → (now : List Task) (a : Alone) → AreRunInPlace net end opened (length opened) now a → length old.items ≤ 65536
-    → (again : List Task) → again ≡ (with_items old now).items → (final : List Task) → IsSameHosts again final
+pub whole_round : (net : Net) (end workers : ℕ) (old : Vec HostTask Global) (opened : List HostTask) → opened ≡ old.items → (now : List HostTask) (a : Alone) → AreRunInPlace net end opened (length opened) now a → length old.items ≤ 65536
+    → (again : List HostTask) → again ≡ (with_items old now).items → (final : List HostTask) → IsSameHosts again final
     → IsPermutation (row_arrivals (rows_of final)) (map parcel_event a.spill.items ++ row_arrivals (rows_of again))
     → ((n : Net) → All (λ (q : Parcel). home n (parcel_event q) ≡ q.to.index) a.spill.items → AreAtHome n (rows_of again) → AreAtHome n (rows_of final))
     → (p : Gained) → p.outputs ≡ a.outputs → ((all : List (order.Logged Line)) → a.lines.items ≡ map kept_line all → p.lines.items ≡ map kept_line (in_order all))
     → 0 < workers → took_in p.took ≡ hosts_below (length old.items) ∷ replicate (workers - 1) [] → IsRoundInPlace net end workers old.items (with_items (with_items old now) final) p
 whole_round net end workers old opened opened_is now a ran few again again_is final same moved theirs p outputs sorted some took =
-    let r : AreRunInPlace net end old.items (length old.items) now a = subst (λ (l : List Task). AreRunInPlace net end l (length l) now a) opened_is ran in
+    let r : AreRunInPlace net end old.items (length old.items) now a = subst (λ (l : List HostTask). AreRunInPlace net end l (length l) now a) opened_is ran in
     let many : length now ≡ old.len = r.all ∙ sym old.ok.0 in
     let again_now : again ≡ now = again_is ∙ with_items_is old now many in
-    let same_now : IsSameHosts now final = subst (λ (l : List Task). IsSameHosts l final) again_now same in
+    let same_now : IsSameHosts now final = subst (λ (l : List HostTask). IsSameHosts l final) again_now same in
     let last : (with_items (with_items old now) final).items ≡ final = with_items_is (with_items old now) final (same_length now final same_now ∙ many) in
     in_place_is net end old.items now a r few (workers - 1) (with_items (with_items old now) final) p
     (subst (IsSameHosts now) (sym last) same_now)
-    (subst (λ (l : List Task). IsPermutation (row_arrivals (rows_of l)) (map parcel_event a.spill.items ++ row_arrivals (rows_of now))) (sym last)
-    (subst (λ (l : List Task). IsPermutation (row_arrivals (rows_of final)) (map parcel_event a.spill.items ++ row_arrivals (rows_of l))) again_now moved))
-    (λ n to at. subst (λ (l : List Task). AreAtHome n (rows_of l)) (sym last) (theirs n to (subst (λ (l : List Task). AreAtHome n (rows_of l)) (sym again_now) at)))
+    (subst (λ (l : List HostTask). IsPermutation (row_arrivals (rows_of l)) (map parcel_event a.spill.items ++ row_arrivals (rows_of now))) (sym last)
+    (subst (λ (l : List HostTask). IsPermutation (row_arrivals (rows_of final)) (map parcel_event a.spill.items ++ row_arrivals (rows_of l))) again_now moved))
+    (λ n to at. subst (λ (l : List HostTask). AreAtHome n (rows_of l)) (sym last) (theirs n to (subst (λ (l : List HostTask). AreAtHome n (rows_of l)) (sym again_now) at)))
     outputs sorted took workers (omega arith)
 
 -- when the first event is due after it
-pub whole_due : (net : Net) (end : ℕ) (old : Vec Task Global) (opened : List Task) → opened ≡ old.items → (now : List Task) (a : Alone) → AreRunInPlace net end opened (length opened) now a
-    → (again : List Task) → again ≡ (with_items old now).items → (final : List Task) → IsSameHosts again final
+pub whole_due : (net : Net) (end : ℕ) (old : Vec HostTask Global) (opened : List HostTask) → opened ≡ old.items → (now : List HostTask) (a : Alone) → AreRunInPlace net end opened (length opened) now a
+    → (again : List HostTask) → again ≡ (with_items old now).items → (final : List HostTask) → IsSameHosts again final
     → IsPermutation (row_arrivals (rows_of final)) (map parcel_event a.spill.items ++ row_arrivals (rows_of again))
     → (packets due : Option Time) → IsLeastDue (map parcel_event a.spill.items) packets → due ≡ lesser_due packets a.due → due ≡ first_due (flat_map waiting (with_items (with_items old now) final).items)
 whole_due net end old opened opened_is now a ran again again_is final same moved packets due arrive is =
     let many : length now ≡ old.len = ran.all ∙ ap length opened_is ∙ sym old.ok.0 in
     let again_now : again ≡ now = again_is ∙ with_items_is old now many in
-    let same_now : IsSameHosts now final = subst (λ (l : List Task). IsSameHosts l final) again_now same in
+    let same_now : IsSameHosts now final = subst (λ (l : List HostTask). IsSameHosts l final) again_now same in
     let last : (with_items (with_items old now) final).items ≡ final = with_items_is (with_items old now) final (same_length now final same_now ∙ many) in
     let moved_now : IsPermutation (row_arrivals (rows_of final)) (map parcel_event a.spill.items ++ row_arrivals (rows_of now)) =
-    subst (λ (l : List Task). IsPermutation (row_arrivals (rows_of final)) (map parcel_event a.spill.items ++ row_arrivals (rows_of l))) again_now moved in
+    subst (λ (l : List HostTask). IsPermutation (row_arrivals (rows_of final)) (map parcel_event a.spill.items ++ row_arrivals (rows_of l))) again_now moved in
     let held : IsLeastDue (flat_map waiting now) a.due =
     subst (λ (l : List Event). IsLeastDue l a.due) (sym (held_waits now ran.ds (ran.many ∙ sym ran.all) (λ k d at. (let p = ran.places k d at in (p.task, p.at, p.host, p.emptied))))) ran.due in
-    subst (λ (l : List Task). due ≡ first_due (flat_map waiting l)) (sym last)
+    subst (λ (l : List HostTask). due ≡ first_due (flat_map waiting l)) (sym last)
     (due_with now final (map parcel_event a.spill.items) a.due packets due held arrive is (waits_with now final (map parcel_event a.spill.items) same_now moved_now))

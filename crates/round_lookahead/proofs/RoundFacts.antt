@@ -19,7 +19,7 @@ use Rattle.steal_workers.proofs.SameSeats.{same_seats_whole, same_deal}
 use Rattle.host_link.specs.Net.{Net}
 use Rattle.host_state.specs.HostRecord.{HostRecord}
 use Rattle.round_lookahead.specs.declared.workers.bench.Bench.{Bench}
-use Rattle.round_lookahead.specs.declared.workers.task.Task.{Task}
+use Rattle.round_lookahead.specs.declared.workers.host_task.HostTask.{HostTask}
 use Rattle.round_lookahead.specs.declared.workers.worked.Worked.{Worked}
 use Rattle.round_lookahead.specs.inside.Arrivals.{Boxed}
 use Rattle.round_lookahead.specs.inside.Benches.{AreBenches, AreParts, HaveWorked, IsReady, IsUnusedOf}
@@ -30,23 +30,23 @@ use Rattle.round_lookahead.proofs.Spreads.{AreSpread, into, back}
 use Rattle.round_lookahead.proofs.RoundSteps.{boxed_weight, entry_parcel, same_seats, same_carriers, are_marked, AreFresh, AllWork, all_work}
 
 -- what holds of all seats holds at all benches
-at_benches : (P : SeatView Task → Type 0) (bs : List Bench) → All P (map (λ (b : Bench). b.seat) bs) → All (λ (b : Bench). P b.seat) bs
+at_benches : (P : SeatView HostTask → Type 0) (bs : List Bench) → All P (map (λ (b : Bench). b.seat) bs) → All (λ (b : Bench). P b.seat) bs
 at_benches P [] all = All-nil _
 at_benches P (b ∷ bs) all =
     All-cons (λ (b : Bench). P b.seat) b bs (All-head P b.seat (map (λ (b : Bench). b.seat) bs) all) (at_benches P bs (All-tail P b.seat (map (λ (b : Bench). b.seat) bs) all))
 
-module _ (net : Net) (end : ℕ) (tasks : List Task) (workers : ℕ) (seats : List (SeatView Task)) (boards : BoardsView) (carriers : List (CarrierView Boxed)) (olds : List Bench)
+module _ (net : Net) (end : ℕ) (tasks : List HostTask) (workers : ℕ) (seats : List (SeatView HostTask)) (boards : BoardsView) (carriers : List (CarrierView Boxed)) (olds : List Bench)
     (new : IsNewDeal tasks workers seats) (open_are : AreOpen (length tasks) workers boards carriers) (at : AreBenches seats carriers olds) where
   of_deal : All (λ (b : Bench). b.seat.deal.tasks ≡ tasks) olds
   of_deal =
-      at_benches (λ (s : SeatView Task). s.deal.tasks ≡ tasks) olds
-      (subst (All (λ (s : SeatView Task). s.deal.tasks ≡ tasks)) (sym at.seats_are)
-      (λ k e within. ap (λ (d : Deal Task). d.tasks) ((new.whole).one_deal k e within) ∙ new.tasks_dealt))
+      at_benches (λ (s : SeatView HostTask). s.deal.tasks ≡ tasks) olds
+      (subst (All (λ (s : SeatView HostTask). s.deal.tasks ≡ tasks)) (sym at.seats_are)
+      (λ k e within. ap (λ (d : Deal HostTask). d.tasks) ((new.whole).one_deal k e within) ∙ new.tasks_dealt))
 
   no_numbers : All (λ (b : Bench). b.seat.numbers ≡ []) olds
   no_numbers =
-      at_benches (λ (s : SeatView Task). s.numbers ≡ []) olds
-      (subst (All (λ (s : SeatView Task). s.numbers ≡ [])) (sym at.seats_are) (λ k e within. (new.fresh k e within).0))
+      at_benches (λ (s : SeatView HostTask). s.numbers ≡ []) olds
+      (subst (All (λ (s : SeatView HostTask). s.numbers ≡ [])) (sym at.seats_are) (λ k e within. (new.fresh k e within).0))
 
   unused : All (λ (b : Bench). IsUnusedOf boards.id b.carrier) olds
   unused = at.carriers_are boards.id (λ k e within. (((open_are.carriers_are).theirs) k e within, open_are.no_entries k e within))
@@ -57,7 +57,7 @@ module _ (net : Net) (end : ℕ) (tasks : List Task) (workers : ℕ) (seats : Li
     carrier = unused k e within;
   }
 
-  module _ (news : List Bench) (have : HaveWorked net end olds news) (seats' : List (SeatView Task)) (carriers' : List (CarrierView Boxed)) (works : List Worked)
+  module _ (news : List Bench) (have : HaveWorked net end olds news) (seats' : List (SeatView HostTask)) (carriers' : List (CarrierView Boxed)) (works : List Worked)
       (parts : AreParts news seats' carriers' works) where
     same : AreSameSeats (map (λ (b : Bench). b.seat) olds) (map (λ (b : Bench). b.seat) news)
     same = same_seats net end olds news have
@@ -92,11 +92,11 @@ module _ (net : Net) (end : ℕ) (tasks : List Task) (workers : ℕ) (seats : Li
 
     deal_tasks : (common_deal seats').tasks ≡ tasks
     deal_tasks =
-        ap (λ (s : List (SeatView Task)). (common_deal s).tasks) parts.seats_are
-        ∙ ap (λ (d : Deal Task). d.tasks) (same_deal (map (λ (b : Bench). b.seat) olds) (map (λ (b : Bench). b.seat) news) same)
-        ∙ ap (λ (s : List (SeatView Task)). (common_deal s).tasks) at.seats_are ∙ new.tasks_dealt
+        ap (λ (s : List (SeatView HostTask)). (common_deal s).tasks) parts.seats_are
+        ∙ ap (λ (d : Deal HostTask). d.tasks) (same_deal (map (λ (b : Bench). b.seat) olds) (map (λ (b : Bench). b.seat) news) same)
+        ∙ ap (λ (s : List (SeatView HostTask)). (common_deal s).tasks) at.seats_are ∙ new.tasks_dealt
 
-    module _ (left : List (Numbered Task)) (gathered : IsGathered seats' left) (rows : List (Vec Boxed Global)) (drained : IsDrained boards.hosts (all_entries carriers') rows)
+    module _ (left : List (Numbered HostTask)) (gathered : IsGathered seats' left) (rows : List (Vec Boxed Global)) (drained : IsDrained boards.hosts (all_entries carriers') rows)
         (kept : AreKept (all_entries carriers') rows) where
       pub rows_count : length rows ≡ length tasks
       rows_count = drained.count ∙ open_are.hosts_are
@@ -116,11 +116,11 @@ module _ (net : Net) (end : ℕ) (tasks : List Task) (workers : ℕ) (seats : Li
         entries_are : all_entries carriers' ≡ all_entries (map (λ (b : Bench). b.carrier) news)
         entries_are = ap all_entries parts.carriers_are
 
-        numbers_is : joined (map (λ (seat : SeatView Task). seat.numbers) seats') ++ numbers_of left ≡ numbers (joined all.jobs)
+        numbers_is : joined (map (λ (seat : SeatView HostTask). seat.numbers) seats') ++ numbers_of left ≡ numbers (joined all.jobs)
         numbers_is =
-            ap (λ (l : List (Numbered Task)). joined (map (λ (seat : SeatView Task). seat.numbers) seats') ++ numbers_of l) (gathered.none_left marked)
-            ∙ append-nil (joined (map (λ (seat : SeatView Task). seat.numbers) seats'))
-            ∙ ap (λ (s : List (SeatView Task)). joined (map (λ (seat : SeatView Task). seat.numbers) s)) parts.seats_are ∙ sym all.numbers_are
+            ap (λ (l : List (Numbered HostTask)). joined (map (λ (seat : SeatView HostTask). seat.numbers) seats') ++ numbers_of l) (gathered.none_left marked)
+            ∙ append-nil (joined (map (λ (seat : SeatView HostTask). seat.numbers) seats'))
+            ∙ ap (λ (s : List (SeatView HostTask)). joined (map (λ (seat : SeatView HostTask). seat.numbers) s)) parts.seats_are ∙ sym all.numbers_are
 
         spread : AreSpread (parcels_made net (joined all.jobs)) (all_entries carriers') (flat_map (λ (w : Worked). w.spill.items) works)
         spread = subst (λ (es : List (Entry Boxed)). AreSpread (parcels_made net (joined all.jobs)) es (flat_map (λ (w : Worked). w.spill.items) works)) (sym entries_are) all.spread
@@ -130,7 +130,7 @@ module _ (net : Net) (end : ℕ) (tasks : List Task) (workers : ℕ) (seats : Li
           jobs = all.jobs;
           done = all.done;
           each_once =
-              subst (λ (ts : List Task). IsPermutation (numbers (joined all.jobs)) (numbers_below (length ts))) deal_tasks
+              subst (λ (ts : List HostTask). IsPermutation (numbers (joined all.jobs)) (numbers_below (length ts))) deal_tasks
               (subst (λ (l : List ℕ). IsPermutation l (numbers_below (length (common_deal seats').tasks))) numbers_is gathered.each_once);
           parcels = λ h.
               (let k = kept (boxed_weight h) in

@@ -15,7 +15,7 @@ use Rattle.steal_workers.specs.SeatViews.{SeatView, IsSameSeat, AreSameSeats, Ha
 use Rattle.host_link.specs.Net.{Net}
 use Rattle.host_state.specs.HostRecord.{HostRecord}
 use Rattle.round_lookahead.specs.declared.workers.bench.Bench.{Bench}
-use Rattle.round_lookahead.specs.declared.workers.task.Task.{Task}
+use Rattle.round_lookahead.specs.declared.workers.host_task.HostTask.{HostTask}
 use Rattle.round_lookahead.specs.declared.workers.worked.Worked.{Worked}
 use Rattle.round_lookahead.specs.inside.Arrivals.{Boxed}
 use Rattle.round_lookahead.specs.inside.Benches.{HasWorked, HaveWorked}
@@ -64,7 +64,7 @@ module _ (net : Net) (end : ℕ) where
   first_worked b d bs ds have = have.1 0 b (omega arith)
 
   same_at : (b d : Bench) (bs ds : List Bench) → HasWorked net end b d → AreSameSeats (map (λ (b : Bench). b.seat) bs) (map (λ (b : Bench). b.seat) ds)
-      → (k : ℕ) (e : SeatView Task) → k < length (map (λ (b : Bench). b.seat) (b ∷ bs)) → IsSameSeat (get_or (map (λ (b : Bench). b.seat) (b ∷ bs)) k e) (get_or (map (λ (b : Bench). b.seat) (d ∷ ds)) k e)
+      → (k : ℕ) (e : SeatView HostTask) → k < length (map (λ (b : Bench). b.seat) (b ∷ bs)) → IsSameSeat (get_or (map (λ (b : Bench). b.seat) (b ∷ bs)) k e) (get_or (map (λ (b : Bench). b.seat) (d ∷ ds)) k e)
   same_at b d bs ds first rest zero e within = first.seat
   same_at b d bs ds first rest (suc k) e within = rest.1 k e (omega arith)
 
@@ -98,11 +98,11 @@ module _ (net : Net) (end : ℕ) where
   are_marked (b ∷ bs) (d ∷ ds) [] have is = absurd (cc)
   are_marked (b ∷ bs) (d ∷ ds) (w ∷ ws) have is =
       let h = heads w ws d.worked (map (λ (b : Bench). b.worked) ds) is in
-      All-cons (λ (s : SeatView Task). HasMark s s.place) d.seat _ ((first_worked b d bs ds have).marked w h.0) (are_marked bs ds ws (rest_worked b d bs ds have) h.1)
+      All-cons (λ (s : SeatView HostTask). HasMark s s.place) d.seat _ ((first_worked b d bs ds have).marked w h.0) (are_marked bs ds ws (rest_worked b d bs ds have) h.1)
 
   -- ---- the work of all
 
-  module _ (tasks : List Task) (rec : ℕ → HostRecord) (are : AreTasks net tasks rec) where
+  module _ (tasks : List HostTask) (rec : ℕ → HostRecord) (are : AreTasks net tasks rec) where
     -- a bench at which nothing was done yet
     pub record IsFresh (worker : ℕ) (b : Bench) : Type 0 where
       pub worker_is : b.worker ≡ worker
@@ -116,7 +116,7 @@ module _ (net : Net) (end : ℕ) where
     pub record AllWork (n : ℕ) (ds : List Bench) (ws : List Worked) : Type 0 where
       pub jobs : List (List HostJob)
       pub done : AreWorks net end tasks rec n jobs ws
-      pub numbers_are : numbers (joined jobs) ≡ joined (map (λ (s : SeatView Task). s.numbers) (map (λ (b : Bench). b.seat) ds))
+      pub numbers_are : numbers (joined jobs) ≡ joined (map (λ (s : SeatView HostTask). s.numbers) (map (λ (b : Bench). b.seat) ds))
       pub weighs : (h : Parcel → ℕ) → weigh h (parcels_made net (joined jobs)) + weigh (back_weight (boxed_weight h)) (all_entries (map (λ (b : Bench). b.carrier) ds))
           ≡ weigh (λ (w : Worked). weigh h w.spill.items) ws + weigh (entry_parcel h) (all_entries (map (λ (b : Bench). b.carrier) ds))
       pub theirs : All (λ (e : Entry Boxed). e.parcel.value.to.index ≡ e.host) (all_entries (map (λ (b : Bench). b.carrier) ds))
@@ -126,7 +126,7 @@ module _ (net : Net) (end : ℕ) where
     one_work n b d w fresh worked is =
         subst (λ (start : List ℕ). IsWork net end n tasks rec start d.seat.numbers d.carrier.entries w) fresh.none
         (subst (λ (k : ℕ). IsWork net end k tasks rec b.seat.numbers d.seat.numbers d.carrier.entries w) fresh.worker_is
-        (subst (λ (ts : List Task). AreTasks net ts rec → IsWork net end b.worker ts rec b.seat.numbers d.seat.numbers d.carrier.entries w) fresh.tasks_are (worked.work w is rec) are))
+        (subst (λ (ts : List HostTask). AreTasks net ts rec → IsWork net end b.worker ts rec b.seat.numbers d.seat.numbers d.carrier.entries w) fresh.tasks_are (worked.work w is rec) are))
 
     turned : (es : List (Entry Boxed)) → All (λ (e : Entry Boxed). e.host ≡ e.parcel.value.to.index) es → All (λ (e : Entry Boxed). e.parcel.value.to.index ≡ e.host) es
     turned es all k e within = sym (all k e within)

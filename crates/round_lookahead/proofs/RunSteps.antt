@@ -10,7 +10,7 @@ use Rattle.host_state.specs.HostRecord.{HostRecord}
 use Rattle.host_link.specs.Parcels.{parcel_event}
 use Rattle.host_state.specs.Running.{kept_line}
 use Rattle.world_order.proofs.Members.{IsIn, IsIn_either, IsIn_permutation, Each}
-use Rattle.round_lookahead.specs.declared.workers.task.Task.{Task}
+use Rattle.round_lookahead.specs.declared.workers.host_task.HostTask.{HostTask}
 use Rattle.round_lookahead.specs.declared.workers.worked.Done.{Done}
 use Rattle.round_lookahead.specs.declared.workers.worked.Worked.{Worked}
 use Rattle.round_lookahead.specs.inside.Backs.{all_done, lines_done}
@@ -26,10 +26,10 @@ map-append : {X Y : Type 0} (f : X → Y) (xs ys : List X) → map f (xs ++ ys) 
 map-append f [] ys = refl
 map-append f (x ∷ xs) ys = ap (λ l. f x ∷ l) (map-append f xs ys)
 
-module _ (net : Net) (end : ℕ) (tasks : List Task) (rec : ℕ → HostRecord) where
+module _ (net : Net) (end : ℕ) (tasks : List HostTask) (rec : ℕ → HostRecord) where
   -- a job, and what is done of it
   pub record IsRunBy (job : HostJob) (d : Done) : Type 0 where
-    pub task : Task
+    pub task : HostTask
     pub dealt : slice_get tasks job.number ≡ Some task
     pub run : IsRunOf net end job.number task (rec job.number) job.ran d
 
@@ -114,7 +114,7 @@ module _ (net : Net) (end : ℕ) (tasks : List Task) (rec : ℕ → HostRecord) 
   held k = part_at waiting tasks k
 
   -- what the jobs' hosts started from
-  pub run_starts : ((k : ℕ) (t : Task) → slice_get tasks k ≡ Some t → Each (λ (e : Event). home net e ≡ k) (waiting t)) → (js : List HostJob) (ds : List Done) → AreRun js ds
+  pub run_starts : ((k : ℕ) (t : HostTask) → slice_get tasks k ≡ Some t → Each (λ (e : Event). home net e ≡ k) (waiting t)) → (js : List HostJob) (ds : List Done) → AreRun js ds
       → (starts : List (List Event)) × StartFrom (model net) end rec held js starts
   run_starts own [] [] a = ([], tt)
   run_starts own [] (d ∷ ds) a = absurd a

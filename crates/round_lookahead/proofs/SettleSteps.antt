@@ -19,7 +19,7 @@ use Rattle.world_order.specs.World as order
 use Rattle.world_order.proofs.Fires.{get-map}
 use Rattle.world_order.proofs.Homes.{some_is, get_below}
 use Rattle.world_order.proofs.Members.{IsIn, IsIn_permutation, Each, Each_from_All, All_from_Each}
-use Rattle.round_lookahead.specs.declared.workers.task.Task.{Task}
+use Rattle.round_lookahead.specs.declared.workers.host_task.HostTask.{HostTask}
 use Rattle.round_lookahead.specs.declared.workers.worked.Done.{Done}
 use Rattle.round_lookahead.specs.declared.workers.worked.Worked.{Worked}
 use Rattle.round_lookahead.specs.declared.world.backs.Back.{Back}
@@ -118,16 +118,16 @@ module _ (count : ℕ) (works : List Worked) (rows : List (Vec Boxed Global)) (c
     module _ (new : List (Vec Boxed Global)) (r : Retasked) (retasked : AreRetasked backs new r) (s : Settled) (tasks_are : s.tasks ≡ r.tasks) (outputs_are : s.gained.outputs ≡ r.outputs) where
       length_tasks : length s.tasks.items ≡ count
       length_tasks =
-          ap (λ (v : Vec Task Global). length v.items) tasks_are ∙ sym (length-map r.tasks.items (λ (t : Task). t.host)) ∙ ap length retasked.hosts
+          ap (λ (v : Vec HostTask Global). length v.items) tasks_are ∙ sym (length-map r.tasks.items (λ (t : HostTask). t.host)) ∙ ap length retasked.hosts
           ∙ length-map backs (λ (b : Back). b.host) ∙ length_backs
 
       outputs_is : written_in s.gained.outputs ≡ map (λ (b : Back). b.outputs.items) backs
       outputs_is = ap written_in outputs_are ∙ retasked.outputs
 
-      tasks_is : {Y : Type 0} (f : Task → Y) (g : Back → Y) → map f r.tasks.items ≡ map g backs → (k : ℕ) (t : Task) (b : Back) → slice_get s.tasks.items k ≡ Some t → slice_get backs k ≡ Some b → f t ≡ g b
+      tasks_is : {Y : Type 0} (f : HostTask → Y) (g : Back → Y) → map f r.tasks.items ≡ map g backs → (k : ℕ) (t : HostTask) (b : Back) → slice_get s.tasks.items k ≡ Some t → slice_get backs k ≡ Some b → f t ≡ g b
       tasks_is f g same k t b at there =
           some_is (f t) (g b)
-          (sym (get-map f s.tasks.items k t at) ∙ ap (λ (v : Vec Task Global). slice_get (map f v.items) k) tasks_are ∙ ap (λ (l : List _). slice_get l k) same ∙ get-map g backs k b there)
+          (sym (get-map f s.tasks.items k t at) ∙ ap (λ (v : Vec HostTask Global). slice_get (map f v.items) k) tasks_are ∙ ap (λ (l : List _). slice_get l k) same ∙ get-map g backs k b there)
 
       is_back : Each (IsBack s) ds
       is_back d h =
@@ -138,8 +138,8 @@ module _ (count : ℕ) (works : List Worked) (rows : List (Vec Boxed Global)) (c
           record {
             task = found.0;
             at = found.1;
-            id = tasks_is (λ (t : Task). t.id) (λ (x : Back). x.id) retasked.ids k found.0 (back_of d) found.1 (back_of_is d h);
-            host = tasks_is (λ (t : Task). t.host) (λ (x : Back). x.host) retasked.hosts k found.0 (back_of d) found.1 (back_of_is d h);
+            id = tasks_is (λ (t : HostTask). t.id) (λ (x : Back). x.id) retasked.ids k found.0 (back_of d) found.1 (back_of_is d h);
+            host = tasks_is (λ (t : HostTask). t.host) (λ (x : Back). x.host) retasked.hosts k found.0 (back_of d) found.1 (back_of_is d h);
             outputs = ap (λ (l : List (List Output)). slice_get l k) outputs_is ∙ get-map (λ (x : Back). x.outputs.items) backs k (back_of d) (back_of_is d h);
           }
 
@@ -147,7 +147,7 @@ module _ (count : ℕ) (works : List Worked) (rows : List (Vec Boxed Global)) (c
           → ((net : Net) → All (λ (p : Parcel). home net (parcel_event p) ≡ p.to.index) spill → AreAtHome net rows → AreAtHome net new)
           → ((all : List (order.Logged Line)) → lines_done ds ≡ map kept_line all → s.gained.lines.items ≡ map kept_line (in_order all)) → took_in s.gained.took ≡ took_by works → HasSettled count works rows s
       has_settled spill is moved theirs lines took =
-          let parcels : map (λ (t : Task). t.parcels) s.tasks.items ≡ new = ap (λ (v : Vec Task Global). map (λ (t : Task). t.parcels) v.items) tasks_are ∙ retasked.parcels in
+          let parcels : map (λ (t : HostTask). t.parcels) s.tasks.items ≡ new = ap (λ (v : Vec HostTask Global). map (λ (t : HostTask). t.parcels) v.items) tasks_are ∙ retasked.parcels in
           record {
             tasks_count = length_tasks;
             outputs_count = ap length outputs_is ∙ length-map backs (λ (b : Back). b.outputs.items) ∙ length_backs;

@@ -13,7 +13,7 @@ use Rattle.stream_pairs.specs.Directions.{Kept, kept_in}
 use Rattle.stream_pairs.specs.declared.kept.KeptStreams.{KeptStreams}
 use Rattle.world_order.proofs.Homes.{get_below}
 use Rattle.round_lookahead.specs.WorldStands.{HostWorld, WorldStands}
-use Rattle.round_lookahead.specs.declared.workers.task.Task.{Task}
+use Rattle.round_lookahead.specs.declared.workers.host_task.HostTask.{HostTask}
 use Rattle.round_lookahead.specs.declared.world.world_state.World.{World}
 
 -- what one host keeps
@@ -23,15 +23,15 @@ kept_is id address streams h number there kept = λ i. record { host = record { 
 
 module _ (c : World) (w : HostWorld) (at : WorldStands c w) where
   -- the host at a place
-  host_there : (i : ℕ) (t : Task) → i < length c.tasks.items → t ≡ get_or c.tasks.items i t → (h : HostRecord) × (slice_get w.hosts i ≡ Some h) × Stands t.host.value h × (t.id.index ≡ h.link.number)
+  host_there : (i : ℕ) (t : HostTask) → i < length c.tasks.items → t ≡ get_or c.tasks.items i t → (h : HostRecord) × (slice_get w.hosts i ≡ Some h) × Stands t.host.value h × (t.id.index ≡ h.link.number)
   host_there i t below is =
       let (h, there) = get_below w.hosts i (let same = at.count in omega arith) in
-      let here : slice_get c.tasks.items i ≡ Some t = slice_get-get_or c.tasks.items i t below ∙ ap (λ (x : Task). Some x) (sym is) in
+      let here : slice_get c.tasks.items i ≡ Some t = slice_get-get_or c.tasks.items i t below ∙ ap (λ (x : HostTask). Some x) (sym is) in
       let stands = at.hosts i t h here there in
       (h, there, stands.stands, stands.id ∙ sym (at.between.hosts i h there).number)
 
   -- one more
-  pub kept_more : (i : ℕ) (t : Task) (old new : List KeptStreams) (k : KeptStreams) → i < length c.tasks.items → t ≡ get_or c.tasks.items i t → new ≡ old ++ k ∷ []
+  pub kept_more : (i : ℕ) (t : HostTask) (old new : List KeptStreams) (k : KeptStreams) → i < length c.tasks.items → t ≡ get_or c.tasks.items i t → new ≡ old ++ k ∷ []
       → ((h : HostRecord) → Stands t.host.value h → t.id.index ≡ h.link.number → kept_in k ≡ kept_by h) → map kept_in old ≡ map kept_by (take i w.hosts)
       → map kept_in new ≡ map kept_by (take (i + 1) w.hosts)
   kept_more i t old new k below is put tells so_far =

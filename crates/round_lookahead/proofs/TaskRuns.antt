@@ -21,7 +21,7 @@ use Rattle.host_link.specs.Parcels.{parcel_event}
 use Rattle.host_state.specs.Running.{Owns, MayRun, RunsUntil, kept_line}
 use Rattle.world_order.specs.WholeTurns.{RunsTo}
 use Rattle.world_order.proofs.Members.{Each_from_All, All_from_Each}
-use Rattle.round_lookahead.specs.declared.workers.task.Task.{Task}
+use Rattle.round_lookahead.specs.declared.workers.host_task.HostTask.{HostTask}
 use Rattle.round_lookahead.specs.declared.workers.worked.Done.{Done}
 use Rattle.round_lookahead.specs.inside.Arrivals.{Boxed, arrivals}
 use Rattle.round_lookahead.specs.Tasks.{IsTask, waiting}
@@ -45,7 +45,7 @@ owns_of : (net : Net) (c : Host) (g h : HostRecord) (q : List Event) → Stands 
 owns_of net c g h q s t owns = subst (λ (l : LinkState). Owns net l q) (sym s.body.link ∙ t.body.link) owns
 
 -- the host holds all that waited, and is the same otherwise
-module _ (t : Task) (start joined again : Host) (parcels : Vec Boxed Global) (start_is : start ≡ t.host.value) (parcels_are : parcels ≡ t.parcels) (again_is : again ≡ joined) where
+module _ (t : HostTask) (start joined again : Host) (parcels : Vec Boxed Global) (start_is : start ≡ t.host.value) (parcels_are : parcels ≡ t.parcels) (again_is : again ≡ joined) where
   pub all_joined : IsPermutation joined.queue (start.queue ++ arrivals parcels.items) → IsPermutation again.queue (waiting t)
   all_joined moved =
       subst (λ (h : Host). IsPermutation h.queue (waiting t)) (sym again_is)
@@ -55,7 +55,7 @@ module _ (t : Task) (start joined again : Host) (parcels : Vec Boxed Global) (st
   pub stands_joined : IsSameBody start joined → (h : HostRecord) → Stands t.host.value h → Stands again h
   stands_joined body h is = subst (λ (x : Host). Stands x h) (sym again_is) (body h (subst (λ (x : Host). Stands x h) (sym start_is) is))
 
-module _ (net : Net) (t : Task) (joined : Host) (moved : IsPermutation joined.queue (waiting t)) where
+module _ (net : Net) (t : HostTask) (joined : Host) (moved : IsPermutation joined.queue (waiting t)) where
   owned : (number : ℕ) (h : HostRecord) → IsTask net number t h → Owns net h.link joined.queue
   owned number h is = owns_permutation net h.link (waiting t) joined.queue (IsPermutation-sym joined.queue (waiting t) moved) is.owns
 

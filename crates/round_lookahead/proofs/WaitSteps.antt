@@ -10,7 +10,7 @@ use Rattle.host_state.specs.declared.host.Host.{Host}
 use Rattle.world_order.proofs.Homes.{some_is}
 use Rattle.world_order.proofs.Members.{IsIn, IsIn_permutation, Each_from_All, All_from_Each}
 use Rattle.world_order.proofs.Parts.{second_first}
-use Rattle.round_lookahead.specs.declared.workers.task.Task.{Task}
+use Rattle.round_lookahead.specs.declared.workers.host_task.HostTask.{HostTask}
 use Rattle.round_lookahead.specs.declared.workers.worked.Done.{Done}
 use Rattle.round_lookahead.specs.Alone.{held_by}
 use Rattle.round_lookahead.specs.inside.Arrivals.{Boxed, arrivals}
@@ -33,29 +33,29 @@ split_parts f g (x ∷ xs) =
     (subst (IsPermutation (f x ++ (g x ++ (flat_map f xs ++ flat_map g xs)))) (sym (append_assoc (f x) (flat_map f xs) (g x ++ flat_map g xs)))
     (IsPermutation-append_right (f x) (g x ++ (flat_map f xs ++ flat_map g xs)) (flat_map f xs ++ (g x ++ flat_map g xs)) (second_first (g x) (flat_map f xs) (flat_map g xs)))))
 
-abbrev pub held_in : List Task → List Event
-held_in ts = flat_map (λ (t : Task). t.host.value.queue) ts
+abbrev pub held_in : List HostTask → List Event
+held_in ts = flat_map (λ (t : HostTask). t.host.value.queue) ts
 
-abbrev pub arrived_in : List Task → List Event
-arrived_in ts = flat_map (λ (t : Task). arrivals t.parcels.items) ts
+abbrev pub arrived_in : List HostTask → List Event
+arrived_in ts = flat_map (λ (t : HostTask). arrivals t.parcels.items) ts
 
-pub arrived_rows : (ts : List Task) → row_arrivals (rows_of ts) ≡ arrived_in ts
+pub arrived_rows : (ts : List HostTask) → row_arrivals (rows_of ts) ≡ arrived_in ts
 arrived_rows [] = refl
 arrived_rows (t ∷ ts) = ap (λ (l : List Event). arrivals t.parcels.items ++ l) (arrived_rows ts)
 
-pub waiting_parts : (ts : List Task) → IsPermutation (flat_map waiting ts) (held_in ts ++ arrived_in ts)
-waiting_parts ts = split_parts (λ (t : Task). t.host.value.queue) (λ (t : Task). arrivals t.parcels.items) ts
+pub waiting_parts : (ts : List HostTask) → IsPermutation (flat_map waiting ts) (held_in ts ++ arrived_in ts)
+waiting_parts ts = split_parts (λ (t : HostTask). t.host.value.queue) (λ (t : HostTask). arrivals t.parcels.items) ts
 
 -- ---- packets wait too
 
-held_hosts : (ts : List Task) → flat_map (λ (b : Box Host Global). b.value.queue) (map (λ (t : Task). t.host) ts) ≡ held_in ts
+held_hosts : (ts : List HostTask) → flat_map (λ (b : Box Host Global). b.value.queue) (map (λ (t : HostTask). t.host) ts) ≡ held_in ts
 held_hosts [] = refl
 held_hosts (t ∷ ts) = ap (λ (l : List Event). t.host.value.queue ++ l) (held_hosts ts)
 
-same_held : (old new : List Task) → IsSameHosts old new → held_in old ≡ held_in new
+same_held : (old new : List HostTask) → IsSameHosts old new → held_in old ≡ held_in new
 same_held old new same = sym (held_hosts old) ∙ ap (flat_map (λ (b : Box Host Global). b.value.queue)) (sym same.hosts) ∙ held_hosts new
 
-pub waits_with : (old new : List Task) (more : List Event) → IsSameHosts old new → IsPermutation (row_arrivals (rows_of new)) (more ++ row_arrivals (rows_of old))
+pub waits_with : (old new : List HostTask) (more : List Event) → IsSameHosts old new → IsPermutation (row_arrivals (rows_of new)) (more ++ row_arrivals (rows_of old))
     → IsPermutation (flat_map waiting new) (more ++ flat_map waiting old)
 waits_with old new more same moved =
     let arrived : IsPermutation (arrived_in new) (more ++ arrived_in old) =
@@ -72,17 +72,17 @@ waits_with old new more same moved =
     (IsPermutation-append_right more (held_in new ++ arrived_in old) (flat_map waiting old) before)))
 
 -- all that waits for hosts that were run in their places is what they hold
-pub held_waits : (ts : List Task) (ds : List Done) → length ds ≡ length ts
-    → ((k : ℕ) (d : Done) → slice_get ds k ≡ Some d → (t : Task) × (slice_get ts k ≡ Some t) × (t.host ≡ d.host) × (t.parcels.items ≡ [])) → flat_map waiting ts ≡ held_by ds
+pub held_waits : (ts : List HostTask) (ds : List Done) → length ds ≡ length ts
+    → ((k : ℕ) (d : Done) → slice_get ds k ≡ Some d → (t : HostTask) × (slice_get ts k ≡ Some t) × (t.host ≡ d.host) × (t.parcels.items ≡ [])) → flat_map waiting ts ≡ held_by ds
 held_waits [] [] count at = refl
 held_waits [] (d ∷ ds) count at = absurd (omega arith)
 held_waits (t ∷ ts) [] count at = absurd (omega arith)
 held_waits (t ∷ ts) (d ∷ ds) count at =
     let first = at 0 d refl in
     let is : t ≡ first.0 = some_is t first.0 first.1 in
-    let none : t.parcels.items ≡ [] = ap (λ (x : Task). x.parcels.items) is ∙ first.3 in
+    let none : t.parcels.items ≡ [] = ap (λ (x : HostTask). x.parcels.items) is ∙ first.3 in
     let held : waiting t ≡ d.host.value.queue =
-    ap (λ (l : List Boxed). t.host.value.queue ++ arrivals l) none ∙ append-nil t.host.value.queue ∙ ap (λ (x : Task). x.host.value.queue) is ∙ ap (λ (b : Box Host Global). b.value.queue) first.2 in
+    ap (λ (l : List Boxed). t.host.value.queue ++ arrivals l) none ∙ append-nil t.host.value.queue ∙ ap (λ (x : HostTask). x.host.value.queue) is ∙ ap (λ (b : Box Host Global). b.value.queue) first.2 in
     let rest : flat_map waiting ts ≡ held_by ds = held_waits ts ds (omega arith) (λ k e there. at (suc k) e there) in
     λ i. held i ++ rest i
 
@@ -102,7 +102,7 @@ least_permuted es fs (Some x) same least =
     )
 
 -- once packets wait too
-pub due_with : (old new : List Task) (more : List Event) (held packets due : Option Time) → IsLeastDue (flat_map waiting old) held → IsLeastDue more packets → due ≡ lesser_due packets held
+pub due_with : (old new : List HostTask) (more : List Event) (held packets due : Option Time) → IsLeastDue (flat_map waiting old) held → IsLeastDue more packets → due ≡ lesser_due packets held
     → IsPermutation (flat_map waiting new) (more ++ flat_map waiting old) → due ≡ first_due (flat_map waiting new)
 due_with old new more held packets due first arrive is moved =
     first-is (flat_map waiting new) due

@@ -5,11 +5,11 @@ use Rattle.host_link.specs.Net.{Net}
 use Rattle.host_state.specs.HostRecord.{HostRecord}
 use Rattle.list_weights.specs.Weights.{weigh, numbers_below}
 use Rattle.list_weights.proofs.Weights.{weigh_ones, length_numbers_below}
-use Rattle.round_lookahead.specs.declared.workers.task.Task.{Task}
+use Rattle.round_lookahead.specs.declared.workers.host_task.HostTask.{HostTask}
 use Rattle.round_lookahead.specs.declared.workers.worked.Done.{Done}
 use Rattle.round_lookahead.specs.Works.{HostJob, IsDone, AreDone, numbers, parcels_by, parcels_made}
 
-pub done_more : (net : Net) (end worker : ℕ) (tasks : List Task) (rec : ℕ → HostRecord) (jobs : List HostJob) (ds : List Done) (job : HostJob) (d : Done)
+pub done_more : (net : Net) (end worker : ℕ) (tasks : List HostTask) (rec : ℕ → HostRecord) (jobs : List HostJob) (ds : List Done) (job : HostJob) (d : Done)
     → AreDone net end worker tasks rec jobs ds → IsDone net end worker tasks rec job d → AreDone net end worker tasks rec (jobs ++ job ∷ []) (ds ++ d ∷ [])
 done_more net end worker tasks rec [] [] job d done is = (is, tt)
 done_more net end worker tasks rec [] (e ∷ ds) job d done is = absurd done

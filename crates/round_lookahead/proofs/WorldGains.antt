@@ -30,7 +30,7 @@ use Rattle.world_order.specs.WholeTurns.{Turn, turn_of}
 use Rattle.world_order.proofs.Fires.{get-map}
 use Rattle.world_order.proofs.Homes.{some_is, get_below, below_get}
 use Rattle.world_order.proofs.Members.{IsIn, IsIn_left, IsIn_either, IsIn_permutation, Each, Each_from_All, All_from_Each}
-use Rattle.round_lookahead.specs.declared.workers.task.Task.{Task}
+use Rattle.round_lookahead.specs.declared.workers.host_task.HostTask.{HostTask}
 use Rattle.round_lookahead.specs.declared.workers.worked.Done.{Done}
 use Rattle.round_lookahead.specs.declared.workers.worked.Worked.{Worked}
 use Rattle.round_lookahead.specs.declared.world.counts.Counts.{Counts}
@@ -63,7 +63,7 @@ use Rattle.round_lookahead.proofs.WorldRounds as rounds
 
 -- ---- who took which host
 
-turns_ids : (worker : ℕ) (js : List HostJob) (d : List Done) (net : Net) (end : ℕ) (tasks : List Task) (records : ℕ → HostRecord) → AreDone net end worker tasks records js d
+turns_ids : (worker : ℕ) (js : List HostJob) (d : List Done) (net : Net) (end : ℕ) (tasks : List HostTask) (records : ℕ → HostRecord) → AreDone net end worker tasks records js d
     → map (λ (h : HostId). let t : Turn = record { worker = worker; number = h.index } in t) (ids_of d) ≡ map turn_of js
 turns_ids worker [] [] net end tasks records a = refl
 turns_ids worker [] (d ∷ ds) net end tasks records a = absurd a
@@ -71,7 +71,7 @@ turns_ids worker (j ∷ js) [] net end tasks records a = absurd a
 turns_ids worker (j ∷ js) (d ∷ ds) net end tasks records a =
     λ i. record { worker = sym a.0.by_worker i; number = a.0.run.id i } ∷ turns_ids worker js ds net end tasks records a.1 i
 
-turns_by : (net : Net) (end : ℕ) (tasks : List Task) (records : ℕ → HostRecord) (worker : ℕ) (jobs : List (List HostJob)) (works : List Worked)
+turns_by : (net : Net) (end : ℕ) (tasks : List HostTask) (records : ℕ → HostRecord) (worker : ℕ) (jobs : List (List HostJob)) (works : List Worked)
     → AreWorks net end tasks records worker jobs works → turns_from worker (took_by works) ≡ map turn_of (joined jobs)
 turns_by net end tasks records worker [] [] a = refl
 turns_by net end tasks records worker [] (w ∷ ws) a = absurd a
@@ -103,7 +103,7 @@ module _ (c : World) (w : HostWorld) (stands : WorldStands c w) (least : Time) (
   abbrev ds : List Done
   ds = all_done works
 
-  abbrev ts : List Task
+  abbrev ts : List HostTask
   ts = s.tasks.items
 
   abbrev new : World
@@ -140,7 +140,7 @@ module _ (c : World) (w : HostWorld) (stands : WorldStands c w) (least : Time) (
   task_at : (k : ℕ) (a : At k) → slice_get ts k ≡ Some a.back.task
   task_at k a = ap (slice_get ts) (sym a.number) ∙ a.back.at
 
-  rows_home : AreAtHome c.net (map (λ (t : Task). t.parcels) ts)
+  rows_home : AreAtHome c.net (map (λ (t : HostTask). t.parcels) ts)
   rows_home = so.home c.net
       (All_from_Each (λ (p : Parcel). home c.net (parcel_event p) ≡ p.to.index) (all_spilled works)
       (λ p h. rounds.laid_home c w stands least due workers works rows many round p (rounds.in_spill c w stands least due workers works rows many round p h)))
@@ -166,22 +166,22 @@ module _ (c : World) (w : HostWorld) (stands : WorldStands c w) (least : Time) (
       (λ (p : IsIn e (arrivals a.back.task.parcels.items)).
       let b = of_map (λ (x : Boxed). parcel_event x.value) a.back.task.parcels.items e p in
       let below = below_get ts k a.back.task (task_at k a) in
-      let long = length-map ts (λ (t : Task). t.parcels) in
-      let row : get_or (map (λ (t : Task). t.parcels) ts) k a.back.task.parcels ≡ a.back.task.parcels =
-      get_or_is (map (λ (t : Task). t.parcels) ts) k a.back.task.parcels a.back.task.parcels (get-map (λ (t : Task). t.parcels) ts k a.back.task (task_at k a)) in
+      let long = length-map ts (λ (t : HostTask). t.parcels) in
+      let row : get_or (map (λ (t : HostTask). t.parcels) ts) k a.back.task.parcels ≡ a.back.task.parcels =
+      get_or_is (map (λ (t : HostTask). t.parcels) ts) k a.back.task.parcels a.back.task.parcels (get-map (λ (t : HostTask). t.parcels) ts k a.back.task (task_at k a)) in
       let all : All (λ (x : Boxed). home c.net (parcel_event x.value) ≡ k) a.back.task.parcels.items =
       subst (λ (r : Vec Boxed Global). All (λ (x : Boxed). home c.net (parcel_event x.value) ≡ k) r.items) row (rows_home k a.back.task.parcels (omega arith)) in
       ap (home c.net) b.2 ∙ Each_from_All (λ (x : Boxed). home c.net (parcel_event x.value) ≡ k) a.back.task.parcels.items all b.0 b.1)
       (IsIn_either e a.back.task.host.value.queue (arrivals a.back.task.parcels.items) h)
 
-  stands_at : (k : ℕ) (t : Task) (h : HostRecord) → slice_get ts k ≡ Some t → slice_get next.hosts k ≡ Some h → StandsAt c.net k t h
+  stands_at : (k : ℕ) (t : HostTask) (h : HostRecord) → slice_get ts k ≡ Some t → slice_get next.hosts k ≡ Some h → StandsAt c.net k t h
   stands_at k t h at there =
       let below = below_get ts k t at in
       let long = so.tasks_count in
       let a = at_number k (omega arith) in
       let task : a.back.task ≡ t = some_is a.back.task t (sym (task_at k a) ∙ at) in
       let host : a.job.ran.host ≡ h = some_is a.job.ran.host h (sym (next_host k a) ∙ there) in
-      subst (λ (x : Task). StandsAt c.net k x h) task
+      subst (λ (x : HostTask). StandsAt c.net k x h) task
       (record {
         id = ap (λ (i : HostId). i.index) a.back.id ∙ a.number;
         stands = subst (Stands a.back.task.host.value) host (subst (λ (x : Box Host Global). Stands x.value a.job.ran.host) (sym a.back.host) a.run.run.stands);
@@ -204,7 +204,7 @@ module _ (c : World) (w : HostWorld) (stands : WorldStands c w) (least : Time) (
       let d = done_job c.net end c.tasks.items (rec c w stands) jobs ds are_run j h in
       let a : IsBack s d.0 = Each_from_All (IsBack s) ds so.hosts d.0 d.1 in
       let same : a.task ≡ t = some_is a.task t (sym a.at ∙ ap (slice_get ts) d.2.run.id ∙ at) in
-      subst (λ (x : Task). IsPermutation x.host.value.queue j.ran.queue) same (subst (λ (x : Box Host Global). IsPermutation x.value.queue j.ran.queue) (sym a.host) d.2.run.queue))))
+      subst (λ (x : HostTask). IsPermutation x.host.value.queue j.ran.queue) same (subst (λ (x : Box Host Global). IsPermutation x.value.queue j.ran.queue) (sym a.host) d.2.run.queue))))
 
   pub gained : IsGained w next s.gained
   gained = record {
@@ -269,13 +269,13 @@ module _ (c : World) (w : HostWorld) (stands : WorldStands c w) (least : Time) (
 -- ---- as the code has it
 
 module _ (c : World) (w : HostWorld) (stands : WorldStands c w) (least : Time) (due : IsLeastDue (flat_map waiting c.tasks.items) (Some least)) (workers : ℕ)
-    (works : List Worked) (rows : List (Vec Boxed Global)) (many : length works ≡ workers) (ts : Vec Task Global) (ts_are : ts ≡ c.tasks)
+    (works : List Worked) (rows : List (Vec Boxed Global)) (many : length works ≡ workers) (ts : Vec HostTask Global) (ts_are : ts ≡ c.tasks)
     (until : ℕ) (until_is : until ≡ window_end (nanos_of c.lookahead) c.net.stop.nanos least.nanos)
     (left : (r : ℕ → HostRecord) → AreTasks c.net ts.items r → IsRound c.net until ts.items r works rows) (count : ℕ) (count_is : count ≡ length c.tasks.items) where
   the_round : IsRound c.net (window_end (nanos_of c.lookahead) c.net.stop.nanos least.nanos) c.tasks.items (rec c w stands) works rows
   the_round =
       subst (λ (n : ℕ). IsRound c.net n c.tasks.items (rec c w stands) works rows) until_is
-      (subst (λ (v : Vec Task Global). (r : ℕ → HostRecord) → AreTasks c.net v.items r → IsRound c.net until v.items r works rows) ts_are left (rec c w stands) (rec_tasks c w stands))
+      (subst (λ (v : Vec HostTask Global). (r : ℕ → HostRecord) → AreTasks c.net v.items r → IsRound c.net until v.items r works rows) ts_are left (rec c w stands) (rec_tasks c w stands))
 
   pub settles : CanSettle count works rows
   settles = subst (λ (n : ℕ). CanSettle n works rows) (sym count_is) (rounds.can_settle c w stands least due workers works rows many the_round)
@@ -289,10 +289,10 @@ module _ (c : World) (w : HostWorld) (stands : WorldStands c w) (least : Time) (
   )
 
 -- a round in which each host is run in its place
-pub goes_on_here : (c : World) (w : HostWorld) → WorldStands c w → (least : Time) → IsLeastDue (flat_map waiting c.tasks.items) (Some least) → (workers : ℕ) (ts : Vec Task Global) → ts ≡ c.tasks → (new : Vec Task Global)
+pub goes_on_here : (c : World) (w : HostWorld) → WorldStands c w → (least : Time) → IsLeastDue (flat_map waiting c.tasks.items) (Some least) → (workers : ℕ) (ts : Vec HostTask Global) → ts ≡ c.tasks → (new : Vec HostTask Global)
     (until : ℕ) → until ≡ window_end (nanos_of c.lookahead) c.net.stop.nanos least.nanos → (p : Gained) → IsRoundInPlace c.net until workers ts.items new p
     → (n : Counts) → ((log : List Line) → c.counts ≡ counts_of log → n ≡ counts_of (log ++ kept_lines p.lines.items))
     → (load : Load) (soon : Option Time) (told : soon ≡ first_due (flat_map waiting new.items)) → (v : HostWorld) × HasGained c (record c { tasks = new; due = soon; told = told; counts = n; load = load }) workers w v p
 goes_on_here c w stands least due workers ts ts_are new until until_is p h n counted load soon told =
-    goes_on c w stands least due workers h.works h.rows h.many ts ts_are until until_is h.round (length ts.items) (ap (λ (v : Vec Task Global). length v.items) ts_are) (record { tasks = new; gained = p }) h.settled
+    goes_on c w stands least due workers h.works h.rows h.many ts ts_are until until_is h.round (length ts.items) (ap (λ (v : Vec HostTask Global). length v.items) ts_are) (record { tasks = new; gained = p }) h.settled
     n counted load soon told

@@ -23,7 +23,7 @@ use Rattle.world_order.proofs.Apart.{apart_append}
 use Rattle.world_order.proofs.Firings.{numbered_apart, numbered_source, numbered_below}
 use Rattle.world_order.proofs.Homes.{some_is}
 use Rattle.world_order.proofs.Members.{IsIn, Each, IsIn_either, IsIn_permutation, Each_from_All, All_from_Each, Each-append}
-use Rattle.round_lookahead.specs.declared.workers.task.Task.{Task}
+use Rattle.round_lookahead.specs.declared.workers.host_task.HostTask.{HostTask}
 use Rattle.round_lookahead.specs.declared.world.world_state.World.{World}
 use Rattle.round_lookahead.specs.inside.Arrivals.{Boxed, arrivals}
 use Rattle.round_lookahead.specs.Counts.{counts_of}
@@ -130,11 +130,11 @@ module _ (net : Net) (row : Row) (fits : FitsNet net row) where
   pub opened_queue : (c : Host) → Begins row c → IsPermutation c.queue (opening row).made
   opened_queue c begins = subst (λ (q : List Event). IsPermutation q (opening row).made) (sym begins.queue) held_moved
 
-  opened_waiting : (t : Task) → IsOpened row t → IsPermutation (waiting t) (opening row).made
+  opened_waiting : (t : HostTask) → IsOpened row t → IsPermutation (waiting t) (opening row).made
   opened_waiting t o =
       subst (λ (l : List Event). IsPermutation l (opening row).made) (sym (ap (λ (bs : List Boxed). t.host.value.queue ++ arrivals bs) o.parcels ∙ append-nil t.host.value.queue)) (opened_queue t.host.value o.host)
 
-  pub opened_stands : (t : Task) → IsOpened row t → StandsAt net row.host.index t (opening row).host
+  pub opened_stands : (t : HostTask) → IsOpened row t → StandsAt net row.host.index t (opening row).host
   opened_stands t o = record {
     id = ap (λ (h : HostId). h.index) o.id;
     stands = o.host.host;
@@ -145,7 +145,7 @@ module _ (net : Net) (row : Row) (fits : FitsNet net row) where
 
 -- ---- host by host
 
-pub opened_more : (rows : List Row) (ts : List Task) (row : Row) (t : Task) → AreOpened rows ts → IsOpened row t → AreOpened (rows ++ row ∷ []) (ts ++ t ∷ [])
+pub opened_more : (rows : List Row) (ts : List HostTask) (row : Row) (t : HostTask) → AreOpened rows ts → IsOpened row t → AreOpened (rows ++ row ∷ []) (ts ++ t ∷ [])
 opened_more [] [] row t are is = (is, tt)
 opened_more [] (u ∷ ts) row t are is = absurd are
 opened_more (r ∷ rows) [] row t are is = absurd are
@@ -156,33 +156,33 @@ row_at [] row rest = refl
 row_at (r ∷ done) row rest = row_at done row rest
 
 -- so far the hosts of the first rows are there
-abbrev pub OpenedSoFar : List Row → List Row → List Task → Type 0
+abbrev pub OpenedSoFar : List Row → List Row → List HostTask → Type 0
 OpenedSoFar rows left ts = (done : List Row) × (rows ≡ done ++ left) × AreOpened done ts
 
-pub row_fits : (net : Net) (rows left rest : List Row) (row : Row) (ts : List Task) → AreHostRows net rows → left ≡ row ∷ rest → OpenedSoFar rows left ts → FitsNet net row
+pub row_fits : (net : Net) (rows left rest : List Row) (row : Row) (ts : List HostTask) → AreHostRows net rows → left ≡ row ∷ rest → OpenedSoFar rows left ts → FitsNet net row
 row_fits net rows left rest row ts are left_is (done, is, opened) =
     are.fit (length done) row (ap (λ (l : List Row). slice_get l (length done)) (is ∙ ap (λ (l : List Row). done ++ l) left_is) ∙ row_at done row rest)
 
-pub opened_next : (rows left rest : List Row) (row : Row) (old new : List Task) (t : Task) → left ≡ row ∷ rest → OpenedSoFar rows left old → IsOpened row t → new ≡ old ++ t ∷ [] → OpenedSoFar rows rest new
+pub opened_next : (rows left rest : List Row) (row : Row) (old new : List HostTask) (t : HostTask) → left ≡ row ∷ rest → OpenedSoFar rows left old → IsOpened row t → new ≡ old ++ t ∷ [] → OpenedSoFar rows rest new
 opened_next rows left rest row old new t left_is (done, is, opened) one more = (
   done ++ (row ∷ []),
   is ∙ ap (λ (l : List Row). done ++ l) left_is ∙ sym (append_assoc done (row ∷ []) rest),
   subst (AreOpened (done ++ row ∷ [])) (sym more) (opened_more done old row t opened one),
 )
 
-pub opened_all : (rows left : List Row) (ts : List Task) → left ≡ [] → OpenedSoFar rows left ts → AreOpened rows ts
+pub opened_all : (rows left : List Row) (ts : List HostTask) → left ≡ [] → OpenedSoFar rows left ts → AreOpened rows ts
 opened_all rows left ts none (done, is, opened) =
     subst (λ (l : List Row). AreOpened l ts) (sym (is ∙ ap (λ (l : List Row). done ++ l) none ∙ append-nil done)) opened
 
 -- ---- all hosts
 
-length_opened : (rows : List Row) (ts : List Task) → AreOpened rows ts → length ts ≡ length rows
+length_opened : (rows : List Row) (ts : List HostTask) → AreOpened rows ts → length ts ≡ length rows
 length_opened [] [] are = refl
 length_opened [] (t ∷ ts) are = absurd are
 length_opened (r ∷ rows) [] are = absurd are
 length_opened (r ∷ rows) (t ∷ ts) are = ap suc (length_opened rows ts are.1)
 
-opened_at : (rows : List Row) (ts : List Task) → AreOpened rows ts → (k : ℕ) (t : Task) → slice_get ts k ≡ Some t → (row : Row) × (slice_get rows k ≡ Some row) × IsOpened row t
+opened_at : (rows : List Row) (ts : List HostTask) → AreOpened rows ts → (k : ℕ) (t : HostTask) → slice_get ts k ≡ Some t → (row : Row) × (slice_get rows k ≡ Some row) × IsOpened row t
 opened_at [] [] are k t at = absurd (let e : None ≡ Some t = at in cc)
 opened_at [] (u ∷ ts) are k t at = absurd are
 opened_at (r ∷ rows) [] are k t at = absurd are
@@ -194,7 +194,7 @@ host_of [] k row at = absurd (let e : None ≡ Some row = at in cc)
 host_of (r ∷ rows) zero row at = ap (λ (x : Row). Some (opening x).host) (some_is r row at)
 host_of (r ∷ rows) (suc k) row at = host_of rows k row at
 
-events_opened : (net : Net) (rows : List Row) (ts : List Task) → ((i : ℕ) (row : Row) → slice_get rows i ≡ Some row → FitsNet net row) → AreOpened rows ts → IsPermutation (flat_map waiting ts) (made_of rows)
+events_opened : (net : Net) (rows : List Row) (ts : List HostTask) → ((i : ℕ) (row : Row) → slice_get rows i ≡ Some row → FitsNet net row) → AreOpened rows ts → IsPermutation (flat_map waiting ts) (made_of rows)
 events_opened net [] [] fit are = IsPermutation-refl []
 events_opened net [] (t ∷ ts) fit are = absurd are
 events_opened net (r ∷ rows) [] fit are = absurd are

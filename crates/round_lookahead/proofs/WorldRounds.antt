@@ -26,7 +26,7 @@ use Rattle.world_order.specs.World as order
 use Rattle.world_order.specs.WholeTurns.{turn_of, job_steps}
 use Rattle.world_order.proofs.Apart.{copies_append, AreApart_permutation, apart_right, same_members}
 use Rattle.world_order.proofs.Members.{IsIn, IsIn_left, IsIn_right, IsIn_either, IsIn_permutation, IsIn_from_Contains, Each, Each_from_All, All_from_Each}
-use Rattle.round_lookahead.specs.declared.workers.task.Task.{Task}
+use Rattle.round_lookahead.specs.declared.workers.host_task.HostTask.{HostTask}
 use Rattle.round_lookahead.specs.declared.workers.worked.Done.{Done}
 use Rattle.round_lookahead.specs.declared.workers.worked.Worked.{Worked}
 use Rattle.round_lookahead.specs.declared.world.world_state.World.{World}
@@ -52,7 +52,7 @@ module _ (c : World) (w : HostWorld) (stands : WorldStands c w) (least : Time) (
   abbrev sim : Simulation HostRecord Line
   sim = simulation c.net (nanos_of c.lookahead) stands.rounds
 
-  abbrev tasks : List Task
+  abbrev tasks : List HostTask
   tasks = c.tasks.items
 
   abbrev jobs : List HostJob
@@ -108,11 +108,11 @@ module _ (c : World) (w : HostWorld) (stands : WorldStands c w) (least : Time) (
   unfolding next
   next_log = round_jobs.next_log sim c.net.stop.nanos least.nanos workers w settled from jobs of once (rec c w stands) (rec_is c w stands) (held c.net end tasks (rec c w stands)) held_all starts.0 starts.1
 
-  pub next_events : (ts : List Task) → length ts ≡ length w.hosts → ((j : HostJob) → IsIn j jobs → (t : Task) → slice_get ts j.number ≡ Some t → IsPermutation t.host.value.queue j.ran.queue)
-      → IsPermutation (flat_map (λ (t : Task). t.host.value.queue) ts ++ packets_in jobs) next.events
+  pub next_events : (ts : List HostTask) → length ts ≡ length w.hosts → ((j : HostJob) → IsIn j jobs → (t : HostTask) → slice_get ts j.number ≡ Some t → IsPermutation t.host.value.queue j.ran.queue)
+      → IsPermutation (flat_map (λ (t : HostTask). t.host.value.queue) ts ++ packets_in jobs) next.events
   unfolding next
   next_events ts = round_jobs.next_events sim c.net.stop.nanos least.nanos workers w settled from jobs of once (rec c w stands) (rec_is c w stands) (held c.net end tasks (rec c w stands)) held_all starts.0 starts.1
-      (λ (t : Task). t.host.value.queue) ts
+      (λ (t : HostTask). t.host.value.queue) ts
 
   next_queues : IsPermutation (flat_map (λ (j : HostJob). j.ran.queue) jobs ++ packets_in jobs) next.events
   unfolding next

@@ -24,7 +24,7 @@ use Rattle.world_order.specs.Settled.{IsSettled, next_at, number_of}
 use Rattle.world_order.proofs.Apart.{one_if, copies_append, AreApart_permutation, apart_left, apart_right}
 use Rattle.world_order.proofs.Homes.{some_is, get_below, below_get}
 use Rattle.world_order.proofs.Members.{IsIn, IsIn_left, IsIn_right, IsIn_either, IsIn_permutation, Each, Each_from_All, All_from_Each}
-use Rattle.round_lookahead.specs.declared.workers.task.Task.{Task}
+use Rattle.round_lookahead.specs.declared.workers.host_task.HostTask.{HostTask}
 use Rattle.round_lookahead.specs.declared.world.world_state.World.{World}
 use Rattle.round_lookahead.specs.inside.Arrivals.{Boxed, arrivals}
 use Rattle.round_lookahead.specs.inside.Backs.{row_arrivals}
@@ -77,10 +77,10 @@ apart_part f (y ∷ ys) (suc k) x at apart = apart_part f ys k x at (apart_right
 -- ---- before the round
 
 module _ (c : World) (w : HostWorld) (stands : WorldStands c w) where
-  here_in : (k : ℕ) (t : Task) (e : Event) → slice_get c.tasks.items k ≡ Some t → IsIn e (waiting t) → IsIn e w.events
+  here_in : (k : ℕ) (t : HostTask) (e : Event) → slice_get c.tasks.items k ≡ Some t → IsIn e (waiting t) → IsIn e w.events
   here_in k t e at h = IsIn_permutation e (flat_map waiting c.tasks.items) w.events stands.events (in_part waiting c.tasks.items k t e at h)
 
-  pub is_task : (k : ℕ) (t : Task) (h : HostRecord) → slice_get c.tasks.items k ≡ Some t → slice_get w.hosts k ≡ Some h → IsTask c.net k t h
+  pub is_task : (k : ℕ) (t : HostTask) (h : HostRecord) → slice_get c.tasks.items k ≡ Some t → slice_get w.hosts k ≡ Some h → IsTask c.net k t h
   is_task k t h at there =
       let s : StandsAt c.net k t h = stands.hosts k t h at there in
       let b = stands.between in
@@ -107,7 +107,7 @@ module _ (c : World) (w : HostWorld) (stands : WorldStands c w) where
             (AreApart_permutation w.events (flat_map waiting c.tasks.items) (IsPermutation-sym (flat_map waiting c.tasks.items) w.events stands.events) b.apart);
       }
 
-  pub host_at : (k : ℕ) (t : Task) → slice_get c.tasks.items k ≡ Some t → (h : HostRecord) × (slice_get w.hosts k ≡ Some h)
+  pub host_at : (k : ℕ) (t : HostTask) → slice_get c.tasks.items k ≡ Some t → (h : HostRecord) × (slice_get w.hosts k ≡ Some h)
   host_at k t at = let below = below_get c.tasks.items k t at in let count = stands.count in get_below w.hosts k (omega arith)
 
   pub all_tasks : AreTasksOf c.net c.tasks.items

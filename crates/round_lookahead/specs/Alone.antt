@@ -9,7 +9,7 @@ use Rattle.host_link.specs.Net.{Net}
 use Rattle.host_link.specs.declared.outbox.Outbox.{Outbox}
 use Rattle.run_files.specs.Written.{written_in}
 use Rattle.host_state.specs.HostRecord.{HostRecord}
-use Rattle.round_lookahead.specs.declared.workers.task.Task.{Task}
+use Rattle.round_lookahead.specs.declared.workers.host_task.HostTask.{HostTask}
 use Rattle.round_lookahead.specs.declared.workers.worked.Done.{Done}
 use Rattle.round_lookahead.specs.declared.world.in_place.Alone.{Alone}
 use Rattle.round_lookahead.specs.inside.Backs.{ids_of, lines_done}
@@ -19,15 +19,15 @@ use Rattle.round_lookahead.specs.Took.{hosts_below}
 use Rattle.round_lookahead.specs.Works.{HostJob, AreDone, numbers, parcels_made}
 
 -- the hosts of the first tasks were run by the first worker, one after another, and the spill has all parcels that they made
-pub record HasRunFirst (net : Net) (end : ℕ) (tasks : List Task) (rec : ℕ → HostRecord) (count : ℕ) (ds : List Done) (spill : List Parcel) : Type 0 where
+pub record HasRunFirst (net : Net) (end : ℕ) (tasks : List HostTask) (rec : ℕ → HostRecord) (count : ℕ) (ds : List Done) (spill : List Parcel) : Type 0 where
   pub jobs : List HostJob
   pub done : AreDone net end 0 tasks rec jobs ds
   pub in_order : numbers jobs ≡ numbers_below count
   pub spilled : spill ≡ parcels_made net jobs
 
 -- the host that was run is in the place of its number, and no packet waits for it
-pub record IsPlaced (tasks : List Task) (place : ℕ) (d : Done) : Type 0 where
-  pub task : Task
+pub record IsPlaced (tasks : List HostTask) (place : ℕ) (d : Done) : Type 0 where
+  pub task : HostTask
   pub at : slice_get tasks place ≡ Some task
   pub number : d.id.index ≡ place
   pub id : task.id ≡ d.id
@@ -54,7 +54,7 @@ held_by ds = flat_map (λ (d : Done). d.host.value.queue) ds
 
 -- the hosts below a number were run in their places, in order, and what they made is kept, and when the first of the events that they hold
 -- is due; the others are as before
-pub record AreRunInPlace (net : Net) (end : ℕ) (old : List Task) (count : ℕ) (new : List Task) (a : Alone) : Type 0 where
+pub record AreRunInPlace (net : Net) (end : ℕ) (old : List HostTask) (count : ℕ) (new : List HostTask) (a : Alone) : Type 0 where
   pub ds : List Done
   pub many : length ds ≡ count
   pub all : length new ≡ length old

@@ -7,13 +7,13 @@ use Rattle.list_weights.specs.Places.{EachAt}
 use Rattle.steal_workers.specs.Gathers.{joined}
 use Rattle.host_link.specs.Net.{Net}
 use Rattle.host_state.specs.HostRecord.{HostRecord}
-use Rattle.round_lookahead.specs.declared.workers.task.Task.{Task}
+use Rattle.round_lookahead.specs.declared.workers.host_task.HostTask.{HostTask}
 use Rattle.round_lookahead.specs.declared.workers.worked.Worked.{Worked}
 use Rattle.round_lookahead.specs.inside.Arrivals.{Boxed}
 use Rattle.round_lookahead.specs.Works.{HostJob, AreDone, numbers, parcels_made}
 
 -- the work of workers, from that number on: each one's jobs
-abbrev pub AreWorks : Net → ℕ → List Task → (ℕ → HostRecord) → ℕ → List (List HostJob) → List Worked → Type 0
+abbrev pub AreWorks : Net → ℕ → List HostTask → (ℕ → HostRecord) → ℕ → List (List HostJob) → List Worked → Type 0
 AreWorks net end tasks rec worker [] [] = Unit {0}
 AreWorks net end tasks rec worker [] (w ∷ works) = ⊥
 AreWorks net end tasks rec worker (jobs ∷ more) [] = ⊥
@@ -34,7 +34,7 @@ pub record AreRows (hosts : ℕ) (rows : List (Vec Boxed Global)) : Type 0 where
 
 -- Each worker's jobs were done, each host was taken by one job, and what the jobs made lies in rows and spills: those parcels and no
 -- others, each as often as made, however parcels are weighed.
-pub record IsRound (net : Net) (end : ℕ) (tasks : List Task) (rec : ℕ → HostRecord) (works : List Worked) (rows : List (Vec Boxed Global)) : Type 0 where
+pub record IsRound (net : Net) (end : ℕ) (tasks : List HostTask) (rec : ℕ → HostRecord) (works : List Worked) (rows : List (Vec Boxed Global)) : Type 0 where
   pub jobs : List (List HostJob)
   pub done : AreWorks net end tasks rec 0 jobs works
   pub each_once : IsPermutation (numbers (joined jobs)) (numbers_below (length tasks))

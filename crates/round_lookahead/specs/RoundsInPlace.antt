@@ -3,7 +3,7 @@ use Rattle.std.specs.Prelude.{◌≡◌, ℕ, List, length, Vec}
 use Rattle.std.specs.declared.alloc.Global.{Global}
 use Rattle.host_link.specs.Net.{Net}
 use Rattle.host_state.specs.HostRecord.{HostRecord}
-use Rattle.round_lookahead.specs.declared.workers.task.Task.{Task}
+use Rattle.round_lookahead.specs.declared.workers.host_task.HostTask.{HostTask}
 use Rattle.round_lookahead.specs.declared.workers.worked.Worked.{Worked}
 use Rattle.round_lookahead.specs.declared.world.gained.Gained.{Gained}
 use Rattle.round_lookahead.specs.inside.Arrivals.{Boxed}
@@ -12,7 +12,7 @@ use Rattle.round_lookahead.specs.inside.Settles.{HasSettled}
 use Rattle.round_lookahead.specs.Tasks.{AreTasks}
 
 -- some work of so many workers gives these tasks and pieces
-pub record IsRoundInPlace (net : Net) (end workers : ℕ) (old : List Task) (new : Vec Task Global) (p : Gained) : Type 0 where
+pub record IsRoundInPlace (net : Net) (end workers : ℕ) (old : List HostTask) (new : Vec HostTask Global) (p : Gained) : Type 0 where
   pub works : List Worked
   pub rows : List (Vec Boxed Global)
   pub many : length works ≡ workers

@@ -6,15 +6,15 @@ use Rattle.host_state.specs.HostRecord.{HostRecord}
 use Rattle.host_state.specs.HostStands.{Stands}
 use Rattle.host_state.specs.Running.{Owns}
 use Rattle.world_order.specs.EventOrder.{AreApart}
-use Rattle.round_lookahead.specs.declared.workers.task.Task.{Task}
+use Rattle.round_lookahead.specs.declared.workers.host_task.HostTask.{HostTask}
 use Rattle.round_lookahead.specs.inside.Arrivals.{arrivals}
 
 -- the events that the host holds, and its packets
-abbrev pub waiting : Task → List Event
+abbrev pub waiting : HostTask → List Event
 waiting t = t.host.value.queue ++ arrivals t.parcels.items
 
 -- the host of that number, which stands for this record; all that waits is its own, and no two events that wait have the same key
-pub record IsTask (net : Net) (number : ℕ) (t : Task) (h : HostRecord) : Type 0 where
+pub record IsTask (net : Net) (number : ℕ) (t : HostTask) (h : HostRecord) : Type 0 where
   pub id : t.id.index ≡ number
   pub numbered : h.link.number ≡ number
   pub stands : Stands t.host.value h
@@ -22,10 +22,10 @@ pub record IsTask (net : Net) (number : ℕ) (t : Task) (h : HostRecord) : Type 
   pub apart : AreApart (waiting t)
 
 -- the tasks' hosts stand for these records
-abbrev pub AreTasks : Net → List Task → (ℕ → HostRecord) → Type 0
-AreTasks net tasks rec = (number : ℕ) (t : Task) → slice_get tasks number ≡ Some t → IsTask net number t (rec number)
+abbrev pub AreTasks : Net → List HostTask → (ℕ → HostRecord) → Type 0
+AreTasks net tasks rec = (number : ℕ) (t : HostTask) → slice_get tasks number ≡ Some t → IsTask net number t (rec number)
 
 -- a task for each host of the net, in order
-pub record AreTasksOf (net : Net) (tasks : List Task) : Type 0 where
+pub record AreTasksOf (net : Net) (tasks : List HostTask) : Type 0 where
   pub count : length tasks ≡ length net.known.book
-  pub each : (number : ℕ) (t : Task) → slice_get tasks number ≡ Some t → (h : HostRecord) × IsTask net number t h
+  pub each : (number : ℕ) (t : HostTask) → slice_get tasks number ≡ Some t → (h : HostRecord) × IsTask net number t h

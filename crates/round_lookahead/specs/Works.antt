@@ -13,7 +13,7 @@ use Rattle.host_link.specs.Outbox.{parcels_of}
 use Rattle.host_link.specs.Parcels.{parcel_event}
 use Rattle.host_state.specs.Running.{Owns, kept_line}
 use Rattle.world_order.specs.WholeTurns.{Job, Ran, RunsTo}
-use Rattle.round_lookahead.specs.declared.workers.task.Task.{Task}
+use Rattle.round_lookahead.specs.declared.workers.host_task.HostTask.{HostTask}
 use Rattle.round_lookahead.specs.declared.workers.worked.Done.{Done}
 use Rattle.round_lookahead.specs.declared.workers.worked.Worked.{Worked}
 use Rattle.round_lookahead.specs.inside.Arrivals.{Boxed}
@@ -37,7 +37,7 @@ numbers jobs = map (λ job. job.number) jobs
 
 -- The host of that number, with all that waits for it, was run up to the end. It stands for what the run left, holds its queue and
 -- owns what it holds; the lines of the log and what its processes wrote are here.
-pub record IsRunOf (net : Net) (end number : ℕ) (t : Task) (h : HostRecord) (ran : Ran HostRecord Line) (d : Done) : Type 0 where
+pub record IsRunOf (net : Net) (end number : ℕ) (t : HostTask) (h : HostRecord) (ran : Ran HostRecord Line) (d : Done) : Type 0 where
   pub id : d.id.index ≡ number
   pub start : List Event
   pub joined : IsPermutation start (waiting t)
@@ -52,36 +52,36 @@ pub record IsRunOf (net : Net) (end number : ℕ) (t : Task) (h : HostRecord) (r
   pub packets : map parcel_event (parcels_of net number ran.packets) ≡ ran.packets
 
 -- the same, with the parcels that it made for other hosts
-pub record HasRun (net : Net) (end : ℕ) (t : Task) (h : HostRecord) (d : Done) (parcels : List Parcel) : Type 0 where
+pub record HasRun (net : Net) (end : ℕ) (t : HostTask) (h : HostRecord) (d : Done) (parcels : List Parcel) : Type 0 where
   pub ran : Ran HostRecord Line
   pub run : IsRunOf net end t.id.index t h ran d
   pub made : parcels ≡ parcels_of net t.id.index ran.packets
 
 -- a host that was run where it was, and what it handed out
-abbrev pub done_of : Task → Outbox → Done
+abbrev pub done_of : HostTask → Outbox → Done
 done_of t out = record { id = t.id; host = t.host; lines = out.lines; outputs = out.outputs }
 
 -- the worker did the job: its host is that of a task
-pub record IsDone (net : Net) (end worker : ℕ) (tasks : List Task) (rec : ℕ → HostRecord) (job : HostJob) (d : Done) : Type 0 where
+pub record IsDone (net : Net) (end worker : ℕ) (tasks : List HostTask) (rec : ℕ → HostRecord) (job : HostJob) (d : Done) : Type 0 where
   pub by_worker : job.worker ≡ worker
-  pub task : Task
+  pub task : HostTask
   pub dealt : slice_get tasks job.number ≡ Some task
   pub run : IsRunOf net end job.number task (rec job.number) job.ran d
 
 -- job by job
-abbrev pub AreDone : Net → ℕ → ℕ → List Task → (ℕ → HostRecord) → List HostJob → List Done → Type 0
+abbrev pub AreDone : Net → ℕ → ℕ → List HostTask → (ℕ → HostRecord) → List HostJob → List Done → Type 0
 AreDone net end worker tasks rec [] [] = Unit {0}
 AreDone net end worker tasks rec [] (d ∷ ds) = ⊥
 AreDone net end worker tasks rec (job ∷ jobs) [] = ⊥
 AreDone net end worker tasks rec (job ∷ jobs) (d ∷ ds) = IsDone net end worker tasks rec job d × AreDone net end worker tasks rec jobs ds
 
 -- jobs were done, and the parcels that they made were posted
-pub record IsWorkOf (net : Net) (end worker : ℕ) (tasks : List Task) (rec : ℕ → HostRecord) (jobs : List HostJob) (entries : List (Entry Boxed)) (w : Worked) : Type 0 where
+pub record IsWorkOf (net : Net) (end worker : ℕ) (tasks : List HostTask) (rec : ℕ → HostRecord) (jobs : List HostJob) (entries : List (Entry Boxed)) (w : Worked) : Type 0 where
   pub done : AreDone net end worker tasks rec jobs w.done.items
   pub posted : IsPosted (parcels_made net jobs) entries w.spill.items
 
 -- beyond the numbers at the start some were gained, of which this is the work
-pub record IsWork (net : Net) (end worker : ℕ) (tasks : List Task) (rec : ℕ → HostRecord) (start all : List ℕ) (entries : List (Entry Boxed)) (w : Worked) : Type 0 where
+pub record IsWork (net : Net) (end worker : ℕ) (tasks : List HostTask) (rec : ℕ → HostRecord) (start all : List ℕ) (entries : List (Entry Boxed)) (w : Worked) : Type 0 where
   pub jobs : List HostJob
   pub gained : all ≡ start ++ numbers jobs
   pub work : IsWorkOf net end worker tasks rec jobs entries w

@@ -16,7 +16,7 @@ use Rattle.host_link.specs.Logs.{lines_of}
 use Rattle.world_order.specs.EventOrder.{AreApart}
 use Rattle.world_order.specs.Settled.{next_at}
 use Rattle.world_order.specs.World as order
-use Rattle.round_lookahead.specs.declared.workers.task.Task.{Task}
+use Rattle.round_lookahead.specs.declared.workers.host_task.HostTask.{HostTask}
 use Rattle.round_lookahead.specs.declared.world.world_state.World.{World}
 use Rattle.round_lookahead.specs.Counts.{counts_of}
 use Rattle.round_lookahead.specs.Tasks.{waiting}
@@ -53,7 +53,7 @@ pub record IsBetweenRounds (net : Net) (w : HostWorld) : Type 0 where
   pub clock : (i : ℕ) (host : HostRecord) → slice_get w.hosts i ≡ Some host → All (λ (e : Event). host.link.time.nanos ≤ e.key.due.nanos) w.events
 
 -- the host of that number, and what it holds and what waits for it fires there
-pub record StandsAt (net : Net) (number : ℕ) (t : Task) (host : HostRecord) : Type 0 where
+pub record StandsAt (net : Net) (number : ℕ) (t : HostTask) (host : HostRecord) : Type 0 where
   pub id : t.id.index ≡ number
   pub stands : Stands t.host.value host
   pub home : All (λ (e : Event). home net e ≡ number) (waiting t)
@@ -64,7 +64,7 @@ pub record WorldStands (c : World) (w : HostWorld) : Type 0 where
   pub rounds : HasRounds c.net (nanos_of c.lookahead)
   pub count : length c.tasks.items ≡ length w.hosts
   pub listed : names_of c.listing ≡ names_in w
-  pub hosts : (k : ℕ) (t : Task) (host : HostRecord) → slice_get c.tasks.items k ≡ Some t → slice_get w.hosts k ≡ Some host → StandsAt c.net k t host
+  pub hosts : (k : ℕ) (t : HostTask) (host : HostRecord) → slice_get c.tasks.items k ≡ Some t → slice_get w.hosts k ≡ Some host → StandsAt c.net k t host
   pub events : IsPermutation (flat_map waiting c.tasks.items) w.events
   pub counts : c.counts ≡ counts_of (lines_of w.log)
   pub between : IsBetweenRounds c.net w

@@ -6,7 +6,7 @@ mod workers;
 mod world;
 
 pub use laws::{one_result, rounds_reach_the_result};
-pub use workers::task::Task;
+pub use workers::host_task::HostTask;
 pub use workers::worked::{Done, Worked};
 pub use workers::working::work;
 pub use world::counts::Counts;

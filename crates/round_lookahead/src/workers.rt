@@ -3,9 +3,9 @@
 pub(crate) mod bench;
 pub(crate) mod busy;
 pub(crate) mod fork;
+pub(crate) mod host_task;
 pub(crate) mod posting;
 pub(crate) mod round;
 pub(crate) mod running;
-pub(crate) mod task;
 pub(crate) mod worked;
 pub(crate) mod working;

@@ -16,7 +16,7 @@ use Rattle.run_fits.specs.Sockets.{TcbFits}
 use Rattle.sim_base.specs.Packet.{ack_flag, fin_flag, max_segment, rst_flag, syn_flag}
 use Rattle.sim_base.specs.declared.address.Addr.{Addr}
 use Rattle.sim_base.specs.declared.errno.Errno.TheVariants.{Econnrefused, Econnreset, Etimedout}
-use Rattle.sock_tcp.specs.connection.Arrival.{acts_on, advances, answers, concludes, connects, discards, duplicate_heard, established, establishes, fin_is_due, fin_received, fitting_text, fresh_text, hears_duplicate, keeps, notices, peer_known, receives, receives_fin, receives_text, restarts_timer, takes, takes_load, takes_packet, takes_segment, unless_over, verdict, waits_again, wants_ack, advanced}
+use Rattle.sock_tcp.specs.connection.Arrival.{acts_on, advances, answers, concludes, connects, discards, duplicate_heard, established, establishes, fin_is_due, fin_received, fitting_text, fresh_text, hears_duplicate, keeps, notices, peer_known, receives, receives_fin, receives_text, restarts_timer, text_comes, takes_load, takes_packet, takes_segment, unless_over, verdict, waits_again, wants_ack, advanced}
 use Rattle.sock_tcp.specs.connection.Begin.{begin}
 use Rattle.sock_tcp.specs.connection.Congestion.{flight_of, is_duplicate, tells_loss}
 use Rattle.sock_tcp.specs.connection.Ending.{ended, ends, vanished, vanishes}
@@ -351,8 +351,8 @@ discards_fits : (count : ℕ) (r : Tcb) → TcbFits r → TcbFits (discards coun
 unfolding discards
 discards_fits count r h = h
 
-takes_fits : (bytes : List ℕ) (t : Turn) → AreBytes bytes → TurnFits t → TurnFits (takes bytes t)
-unfolding takes
+takes_fits : (bytes : List ℕ) (t : Turn) → AreBytes bytes → TurnFits t → TurnFits (text_comes bytes t)
+unfolding text_comes
 takes_fits bytes t are h =
     by_test TurnFits (length bytes == 0) _ _
     (λ e. h)

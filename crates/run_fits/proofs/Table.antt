@@ -57,7 +57,7 @@ use Rattle.host_calls.specs.Epoll.{all_seen, epoll_waits}
 use Rattle.call_parts.specs.Epoll.{event_bytes}
 use Rattle.host_calls.specs.Events.{arrives, alarmed, ended_by, ended}
 use Rattle.file_calls.specs.Files.{reads, writes}
-use Rattle.host_calls.specs.Parts.{PartsRecord, Place, place, place_in, with_place, Scene, local_of, plainly}
+use Rattle.host_calls.specs.Parts.{PartsRecord, Slot, slot, slot_in, with_slot, Scene, local_of, plainly}
 use Rattle.call_parts.specs.Polling.{poll_entries, entry_size}
 use Rattle.host_calls.specs.Polling.{polls, came, told_entries, told_entry}
 use Rattle.file_calls.specs.Scene.{Local}
@@ -212,9 +212,9 @@ module _ (known : Known) (hosts : AreBytes known.hosts) (now : Time) where
 
 -- ---- a process in its place among those of its host
 
--- what is in a place
-abbrev PlaceFits : Place → Type 0
-PlaceFits p = TaskFits p.task × FilesFit p.shared.files × WantsFit p.shared.outlet × SocketsFit p.sockets
+-- what is in a slot
+abbrev SlotFits : Slot → Type 0
+SlotFits p = TaskFits p.task × FilesFit p.shared.files × WantsFit p.shared.outlet × SocketsFit p.sockets
 
 task_at : (process : ℕ) (tasks : List (Option Task)) → AllByRecursion TaskFits tasks → TaskFits (at process tasks)
 task_at process tasks h = flat (slice_get tasks process) (got TaskFits tasks process h)
@@ -223,10 +223,10 @@ task_at process tasks h = flat (slice_get tasks process) (got TaskFits tasks pro
     flat None h = tt
     flat (Some slot) h = h
 
-in_place_fits : (process : ℕ) (h : PartsRecord) → PartsFit h → PlaceFits (place_in process h)
-in_place_fits process h fits = (task_at process h.tasks fits.tasks, fits.files, fits.wants, fits.sockets)
+in_slot_fits : (process : ℕ) (h : PartsRecord) → PartsFit h → SlotFits (slot_in process h)
+in_slot_fits process h fits = (task_at process h.tasks fits.tasks, fits.files, fits.wants, fits.sockets)
 
-put_back : (process : ℕ) (p : Place) (h : PartsRecord) → PlaceFits p → PartsFit h → PartsFit (with_place process p h)
+put_back : (process : ℕ) (p : Slot) (h : PartsRecord) → SlotFits p → PartsFit h → PartsFit (with_slot process p h)
 put_back process p h k fits = record {
   tasks = all_set TaskFits h.tasks process p.task fits.tasks k.0;
   files = k.1;
@@ -234,7 +234,7 @@ put_back process p h k fits = record {
   sockets = k.3;
 }
 
-call_by_fits : (known : Known) (now : Time) (process number : ℕ) (args : List ℕ) (o : Option Task) (p : Place) → AreBytes known.hosts → TaskFits o → PlaceFits p → PlaceFits (call_by known now process number args o p).1
+call_by_fits : (known : Known) (now : Time) (process number : ℕ) (args : List ℕ) (o : Option Task) (p : Slot) → AreBytes known.hosts → TaskFits o → SlotFits p → SlotFits (call_by known now process number args o p).1
 call_by_fits known now process number args None p hosts here h = h
 call_by_fits known now process number args (Some task) p hosts here h =
     scene_fits known hosts now process number args (scene_at task p) (here, h.1, h.2, h.3)
@@ -242,25 +242,25 @@ call_by_fits known now process number args (Some task) p hosts here h =
 -- a call
 pub call_fits : (known : Known) (now : Time) (process number : ℕ) (args : List ℕ) (h : PartsRecord) → AreBytes known.hosts → PartsFit h → PartsFit (call known now process number args h).1
 call_fits known now process number args h hosts fits =
-    let p = place_in process h in
-    let k = in_place_fits process h fits in
+    let p = slot_in process h in
+    let k = in_slot_fits process h fits in
     put_back process (call_by known now process number args p.task p).1 h (call_by_fits known now process number args p.task p hosts k.0 k) fits
 
 -- an end of a process, and a start
-ended_by_fits : (now : Time) (o : Option Task) (p : Place) → TaskFits o → PlaceFits p → PlaceFits (ended_by now o p)
+ended_by_fits : (now : Time) (o : Option Task) (p : Slot) → TaskFits o → SlotFits p → SlotFits (ended_by now o p)
 ended_by_fits now None p here h = h
 ended_by_fits now (Some task) p here h = all_ended_fits now (scene_at task p) (here, h.1, h.2, h.3)
 
 pub ended_fits : (now : Time) (process : ℕ) (h : PartsRecord) → PartsFit h → PartsFit (ended now process h)
 ended_fits now process h fits =
-    let p = place_in process h in
-    let k = in_place_fits process h fits in
+    let p = slot_in process h in
+    let k = in_slot_fits process h fits in
     put_back process (ended_by now p.task p) h (ended_by_fits now p.task p k.0 k) fits
 
 pub starts_fit : (process : ℕ) (memory : Memory) (h : PartsRecord) → HasBytes memory → PartsFit h → PartsFit (task_starts process memory h)
 starts_fit process memory h are fits =
     let s = starts memory h.shared in
-    put_back process (place (Some s.0) s.1 h.sockets) h (are, fits.files, fits.wants, fits.sockets) fits
+    put_back process (slot (Some s.0) s.1 h.sockets) h (are, fits.files, fits.wants, fits.sockets) fits
 
 -- an arrival
 pub arrival_fits : (now : Time) (packet : Packet) (h : PartsRecord) → IsWhole packet → PartsFit h → PartsFit (arrives now packet h).1

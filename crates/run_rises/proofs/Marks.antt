@@ -25,7 +25,7 @@ use Rattle.file_calls.specs.declared.descriptors.Descriptor.{Descriptor}
 use Rattle.file_calls.specs.declared.task.Task.{Task}
 use Rattle.file_calls.specs.Descriptors.{descriptor_by, descriptor}
 use Rattle.host_calls.specs.Calls.{scene_at}
-use Rattle.host_calls.specs.Parts.{PartsRecord, place_in, Scene}
+use Rattle.host_calls.specs.Parts.{PartsRecord, slot_in, Scene}
 use Rattle.host_calls.specs.Ready as ready
 use Rattle.host_calls.specs.Ready.{object_rises, seen_by, seen}
 use Rattle.socket_laws.specs.Histories.{SocketsAct, sockets_after}
@@ -232,14 +232,14 @@ module _ (hosts : List Ip) (own : Ip) (history more : HostHistory) (now : Time) 
         (still_mark (object_alone file.object) mark (marks process k first w mark id file at_first e marked before.1.1.0 before.1.1.1)
         (λ u. alone_lasts hosts kept.files.on_pipes kept.files.on_eventfds kept.files.on_timers kept.sockets.acts x.shared.files x.sockets u file.object (same.lasts u)))
 
-    told_mark : (v : Watch) → HasEntry k first.epolls v → w ≡ report_of v (seen now (scene_at first (place_in process x)) v.fd) → IsMark hosts own more (object_alone g.object) mark
+    told_mark : (v : Watch) → HasEntry k first.epolls v → w ≡ report_of v (seen now (scene_at first (slot_in process x)) v.fd) → IsMark hosts own more (object_alone g.object) mark
     told_mark v e is =
         let before = opened_before v e in
         let id = before.0 in
         let file = before.1.0 in
         let same_fd : w.fd ≡ v.fd = ap (λ (z : Watch). z.fd) is in
         let same = one id file (subst (λ (n : ℕ). map.get first.table n ≡ Some id) (sym same_fd) before.1.1.0) before.1.1.1 in
-        let rises = (seen now (scene_at first (place_in process x)) v.fd).rises in
+        let rises = (seen now (scene_at first (slot_in process x)) v.fd).rises in
         let is_mark : rises ≡ mark = some_same rises mark (sym (ap (λ (z : Watch). z.reported) is) ∙ marked) in
         subst (λ (o : Object). IsMark hosts own more o mark) same.same_object
         (new_mark id file mark before.1.1.1

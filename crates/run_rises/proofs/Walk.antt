@@ -26,7 +26,7 @@ use Rattle.file_calls.specs.declared.task.Task.{Task}
 use Rattle.file_calls.specs.declared.task.Why.{Why}
 use Rattle.host_calls.specs.Calls.{call}
 use Rattle.host_calls.specs.Events.{arrives, alarmed, ended}
-use Rattle.host_calls.specs.Parts.{PartsRecord, place}
+use Rattle.host_calls.specs.Parts.{PartsRecord, slot}
 use Rattle.host_calls.specs.Starting.{task_starts}
 use Rattle.host_link.specs.Net.{Net}
 use Rattle.guest_process.specs.declared.process.Running.{Running}
@@ -46,7 +46,7 @@ use Rattle.file_laws.specs.Lives.{SlotAct, slots_after}
 use Rattle.file_laws.specs.Timers.{TimerAct}
 use Rattle.call_rises.specs.Moves.{FilesMove, TasksRise}
 use Rattle.call_rises.proofs.Moving.{by_test, none, moved, slots_joined}
-use Rattle.call_rises.proofs.Table.{Keeps, moved_place, emptied, call_keeps, ended_keeps, starts_keep, arrives_keeps, alarmed_keeps}
+use Rattle.call_rises.proofs.Table.{Keeps, moved_slot, emptied, call_keeps, ended_keeps, starts_keep, arrives_keeps, alarmed_keeps}
 use Rattle.call_rises.proofs.SocketMoves.{sockets_rest}
 use Rattle.call_rises.proofs.There.{all_stay}
 use Rattle.call_rises.proofs.Views.{view, grows_so}
@@ -230,7 +230,7 @@ module _ (net : Net) where
       let sockets = h.parts.sockets in
       let parts = with_task p (Some task) h.parts in
       let moved_so = moved h.link.time.nanos (view before shared sockets) (view task shared sockets) (none h.link.time.nanos shared.files) table refl epolls (grows_so shared.files shared.files refl refl refl) (all_stay sockets) in
-      let k = (moved_place net.known.book h.link.time h.parts p before (place (Some task) shared sockets) task there refl moved_so (sockets_rest net.known.book sockets)).keeps in
+      let k = (moved_slot net.known.book h.link.time h.parts p before (slot (Some task) shared sockets) task there refl moved_so (sockets_rest net.known.book sockets)).keeps in
       kept h parts k
       (λ own history. holds_on net.known.book own history h.link.time h.parts parts k)
 

@@ -12,7 +12,7 @@ use Rattle.host_state.specs.Fits.{fires_before_stop}
 use Rattle.host_state.specs.HostRecord.{HostRecord}
 use Rattle.host_link.specs.Link.{LinkState, without_made}
 use Rattle.socket_streams.specs.Records.{packets_of}
-use Rattle.run_streams.specs.Nets.{waiting_in, packets_carried, link_packets, host_packets}
+use Rattle.run_streams.specs.Exchanges.{waiting_in, packets_carried, link_packets, host_packets}
 use Rattle.run_streams.proofs.Hosts.{IsGood, HostMoves}
 use Rattle.run_streams.proofs.Walk.{FliesIn, event_acts}
 

@@ -12,7 +12,7 @@ use Rattle.host_state.specs.Host.{with_link, with_parts}
 use Rattle.host_state.specs.HostRecord.{HostRecord}
 use Rattle.host_link.specs.Link.{LinkState, logs}
 use Rattle.call_streams.proofs.Table.{arrives_moves}
-use Rattle.run_streams.specs.Nets.{link_packets}
+use Rattle.run_streams.specs.Exchanges.{link_packets}
 use Rattle.run_streams.proofs.Every.{Every}
 use Rattle.run_streams.proofs.Links.{carries_logs}
 use Rattle.run_streams.proofs.Hosts.{IsGood, HostMoves, rests, on, parts_move, link_moves, settled}

@@ -28,7 +28,7 @@ use Rattle.world_order.specs.World.{after_firing, next}
 use Rattle.socket_laws.proofs.HereActs.{here_always}
 use Rattle.socket_streams.specs.Home.{AreAtHome}
 use Rattle.socket_streams.proofs.OwnEnds.{none_own, own_home}
-use Rattle.run_streams.specs.Nets.{carried_by, carried, host_records}
+use Rattle.run_streams.specs.Exchanges.{carried_by, carried, host_records}
 use Rattle.run_streams.specs.Run.{IsReached, AreHosts}
 use Rattle.run_streams.specs.Run.IsReached.{begins, turns}
 use Rattle.run_streams.proofs.Every.{Every, every_append, every_with, every_here, every_member, given, AllAt, set_at}

@@ -1,4 +1,4 @@
--- what an act of a host does to its net, beside the records of others
+-- what an act of a host does to its exchange, beside the records of others
 use Rattle.std.proofs.Common.{◌≡◌, inl, ⊎_elim, ℕ, Bool, List, [], ◌∷◌, ◌++◌, filter_map, Contains, refl, sym, ap, subst, ◌∙◌}
 use Rattle.std.proofs.lemmas.List.Elements.{Contains-append_left, Contains-append_right, Contains-append_cases}
 use Rattle.std.proofs.lemmas.List.Sorted.{IsPermutation-refl}
@@ -7,7 +7,7 @@ use Rattle.sim_base.specs.declared.address.Addr.{Addr}
 use Rattle.sim_base.specs.declared.packet.Packet.{Packet}
 use Rattle.sim_base.specs.declared.time.Time.{Time}
 use Rattle.sock_tcp.specs.connection.Tcb.{Tcb}
-use Rattle.tcp_streams.specs.Net as streams
+use Rattle.tcp_streams.specs.Exchange as streams
 use Rattle.tcp_streams.proofs.Members.{IsIn_from_Contains, Contains_here, Contains_there}
 use Rattle.host_wants.specs.declared.outlet.Want.{Want}
 use Rattle.host_wants.specs.declared.outlet.Want.TheVariants as wanted
@@ -22,20 +22,20 @@ use Rattle.host_link.specs.Link.{LinkState}
 use Rattle.host_link.specs.Sending.{Wire}
 use Rattle.socket_laws.specs.Histories.{SocketsAct, sockets_acted, sockets_after}
 use Rattle.socket_laws.specs.Histories.SocketsAct.{elsewhere}
-use Rattle.socket_streams.specs.Records.{packet_in, packets_of, net_with}
+use Rattle.socket_streams.specs.Records.{packet_in, packets_of, exchange_with}
 use Rattle.socket_streams.specs.Leads.{Leads}
 use Rattle.socket_streams.specs.May.{ArePlain, Moves}
 use Rattle.socket_streams.proofs.Chains.{both, goes}
 use Rattle.socket_streams.proofs.Acts.{moves_lead}
 use Rattle.call_streams.specs.Parts.{sockets_in}
-use Rattle.run_streams.specs.Nets.{link_packets, host_records}
+use Rattle.run_streams.specs.Exchanges.{link_packets, host_records}
 use Rattle.run_streams.proofs.Every.{Every}
 use Rattle.run_streams.proofs.Links.{Carries, Any, link_member, link_as, Wired, FitsWant, wants_done}
 
--- a host's net beside other records, with packets that are on their way already
-abbrev pub part_of : List Tcb → List Packet → HostRecord → streams.Net
+-- a host's exchange beside other records, with packets that are on their way already
+abbrev pub part_of : List Tcb → List Packet → HostRecord → streams.Exchange
 part_of others flying h =
-    net_with (host_records h ++ others) ((flying ++ link_packets h.link) ++ packets_of h.parts.shared.outlet)
+    exchange_with (host_records h ++ others) ((flying ++ link_packets h.link) ++ packets_of h.parts.shared.outlet)
 
 -- what every act of a host leaves as it was
 pub record IsGood (own : Ip) (n : ℕ) (h : HostRecord) : Type 0 where

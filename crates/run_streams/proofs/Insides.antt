@@ -1,4 +1,4 @@
--- within a host: each turn of a run is steps of its own net, in which what has 127.0.0.1 at one end stays
+-- within a host: each turn of a run is steps of its own exchange, in which what has 127.0.0.1 at one end stays
 use Rattle.std.proofs.Common.{◌≡◌, ◌≢◌, ◌⊎◌, inl, inr, ⊎_elim, ℕ, zero, suc, ◌==◌, ◌||◌, Bool, true, false, nat_lt, List, [], ◌∷◌, ◌++◌, map, flat_map, Contains, Option, Some, None, slice_get, refl, sym, ap, subst, ◌∙◌, append-nil, arith}
 use Rattle.std.proofs.lemmas.Bool.Decides.{nat_tests}
 use Rattle.std.specs.List.Sorted.{IsPermutation}
@@ -11,9 +11,9 @@ use Rattle.sim_base.specs.declared.event.Event.{Event}
 use Rattle.sim_base.specs.declared.event.What.{What}
 use Rattle.sim_base.specs.declared.event.What.TheVariants as what
 use Rattle.sim_base.specs.declared.packet.Packet.{Packet}
-use Rattle.tcp_streams.specs.Net as streams
-use Rattle.tcp_streams.specs.Net.{empty_net, IsVoid, Comes, AreSteps, last_net}
-use Rattle.tcp_streams.specs.Net.Step.{goes_on}
+use Rattle.tcp_streams.specs.Exchange as streams
+use Rattle.tcp_streams.specs.Exchange.{empty_exchange, IsVoid, Comes, AreSteps, last_exchange}
+use Rattle.tcp_streams.specs.Exchange.Step.{goes_on}
 use Rattle.tcp_streams.specs.Frame.{inside}
 use Rattle.tcp_streams.specs.Stream.{IsSimple, stream_of, IsFaithful}
 use Rattle.tcp_streams.proofs.Members.{Contains_here, Contains_there, IsIn_from_Contains}
@@ -37,7 +37,7 @@ use Rattle.socket_streams.specs.Inside.{IsInside, StaysInside}
 use Rattle.socket_streams.specs.Leads.{Leads}
 use Rattle.socket_streams.proofs.Chains.{both, goes}
 use Rattle.socket_streams.proofs.Shares.{same_permutation}
-use Rattle.run_streams.specs.Nets.{carried_by, carried, packets_carried, link_packets, host_packets, host_records, host_net}
+use Rattle.run_streams.specs.Exchanges.{carried_by, carried, packets_carried, link_packets, host_packets, host_records, host_exchange}
 use Rattle.run_streams.specs.Run.{IsReached, AreOutside, ArePlaced}
 use Rattle.run_streams.specs.Run.IsReached.{begins, turns}
 use Rattle.run_streams.proofs.Every.{Every, every_append, every_with, every_here, every_member, given, every_given, filtered, every_filtered, AllAt, set_at}
@@ -160,25 +160,25 @@ made_roam net i k own made p apart each c =
 pub record IsHoused (net : Net) (i : ℕ) (h : HostRecord) (events : List Event) : Type 0 where
   pub own : Ip
   pub good : IsGood own i h
-  pub nets : List streams.Net
-  pub steps : AreSteps inside empty_net nets
-  pub last : last_net empty_net nets ≡ host_net net i h events
-  pub stays : StaysInside own (host_net net i h events)
+  pub exchanges : List streams.Exchange
+  pub steps : AreSteps inside empty_exchange exchanges
+  pub last : last_exchange empty_exchange exchanges ≡ host_exchange net i h events
+  pub stays : StaysInside own (host_exchange net i h events)
 
 pub record AllHoused (net : Net) (w : World) : Type 0 where
   pub hosts : AllAt (λ i h. IsHoused net i h w.events) w.hosts
   pub roams : Every (λ (e : Event). RoamsIn e.what) w.events
 
-on_to : (net : Net) (i : ℕ) (h k : HostRecord) (events more : List Event) (housed : IsHoused net i h events) → IsGood housed.own i k → Leads inside housed.own (host_net net i h events) (host_net net i k more) → IsHoused net i k more
+on_to : (net : Net) (i : ℕ) (h k : HostRecord) (events more : List Event) (housed : IsHoused net i h events) → IsGood housed.own i k → Leads inside housed.own (host_exchange net i h events) (host_exchange net i k more) → IsHoused net i k more
 on_to net i h k events more housed good leads =
-    let after = subst (λ (n : streams.Net). AreSteps inside n leads.nets) (sym housed.last) leads.steps in
-    let all = joined inside empty_net housed.nets leads.nets housed.steps after in
+    let after = subst (λ (n : streams.Exchange). AreSteps inside n leads.exchanges) (sym housed.last) leads.steps in
+    let all = joined inside empty_exchange housed.exchanges leads.exchanges housed.steps after in
     record {
       own = housed.own;
       good = good;
-      nets = housed.nets ++ leads.nets;
+      exchanges = housed.exchanges ++ leads.exchanges;
       steps = all.0;
-      last = all.1 ∙ (ap (λ (n : streams.Net). last_net n leads.nets) housed.last ∙ leads.last);
+      last = all.1 ∙ (ap (λ (n : streams.Exchange). last_exchange n leads.exchanges) housed.last ∙ leads.last);
       stays = leads.inside housed.stays;
     }
 
@@ -194,7 +194,7 @@ others_do net i h events more from housed =
     (λ a. ⊎_elim (λ b. inl (Contains-append_right packets before p b)) (λ b. inr b) (from p a))
     (Contains-append_cases packets (packets_at net i more) p c) in
     on_to net i h h events more housed housed.good (record {
-      nets = host_net net i h more ∷ [];
+      exchanges = host_exchange net i h more ∷ [];
       steps = (goes_on (IsPermutation-refl (host_records h)) (λ p c. ⊎_elim (λ a. inl a) (λ b. inr (inr (roams_comes p b))) (fits p c)), tt);
       last = refl;
       inside = λ s. record {
@@ -252,7 +252,7 @@ fires_at_home net w e rest h taken roams housed =
     let f = fire net h e in
     let out = packets_of h.parts.shared.outlet in
     let left = packets_of after.parts.shared.outlet in
-    let enters = goes inside own (host_net net i h w.events) (part_of [] flying h)
+    let enters = goes inside own (host_exchange net i h w.events) (part_of [] flying h)
     (same_permutation (host_records h ++ []) (host_records h) (append-nil (host_records h)))
     (λ p c.
     inl (⊎_elim
@@ -269,7 +269,7 @@ fires_at_home net w e rest h taken roams housed =
     (λ a. Contains-append_left (flying ++ link_packets after.link) left p (Contains-append_right flying (link_packets after.link) p a))
     (λ a. Contains-append_right (flying ++ link_packets after.link) left p a)
     (Contains-append_cases (link_packets after.link) left p c) in
-    let leaves = goes inside own (part_of [] flying after) (host_net net i f.host (rest ++ f.made))
+    let leaves = goes inside own (part_of [] flying after) (host_exchange net i f.host (rest ++ f.made))
     (same_permutation (host_records f.host) (host_records after ++ []) (sym (append-nil (host_records after))))
     (λ p c.
     inl (⊎_elim
@@ -280,11 +280,11 @@ fires_at_home net w e rest h taken roams housed =
     (λ b. fits p (Contains-append_left (link_packets after.link) left p (made_member after.link p (all_carried net i after.link.made p b))))
     (more_cases net i rest after.link.made p a))
     (Contains-append_cases (host_packets f.host) (packets_at net i (rest ++ after.link.made)) p c))) in
-    let led = both inside own (host_net net i h w.events) (part_of [] flying h) (part_of [] flying after) enters m.leads in
+    let led = both inside own (host_exchange net i h w.events) (part_of [] flying h) (part_of [] flying after) enters m.leads in
     let stays = led.inside housed.stays in
     record {
       housed = on_to net i h f.host w.events (rest ++ f.made) housed (fired_good net own i e h m.good)
-          (both inside own (host_net net i h w.events) (part_of [] flying after) (host_net net i f.host (rest ++ f.made)) led leaves);
+          (both inside own (host_exchange net i h w.events) (part_of [] flying after) (host_exchange net i f.host (rest ++ f.made)) led leaves);
       sent = (
         own,
         every_with (IsMade Any own i) (IsSentOut own i) after.link.made
@@ -357,7 +357,7 @@ row_housed net i row events at outside none =
     record {
       own = row.address;
       good = subst (λ (n : ℕ). IsGood row.address n h) at (row_good net row);
-      nets = host_net net i h events ∷ [];
+      exchanges = host_exchange net i h events ∷ [];
       steps = (goes_on (IsPermutation-refl []) (λ p c. absurd (never p c)), tt);
       last = refl;
       stays = record {
@@ -386,5 +386,5 @@ run_housed net rows w outside placed (turns u v reached k) =
 pub within : (net : Net) (rows : List Row) (w : World) (i : ℕ) (h : HostRecord) (from to : Addr) → AreOutside rows → ArePlaced rows → IsReached net (opening_world rows) w → slice_get w.hosts i ≡ Some h → inside from to ≡ true → IsSimple from to (host_records h) → IsFaithful (stream_of from to (host_records h))
 within net rows w i h from to outside placed reached at is_inside simple =
     let housed = (run_housed net rows w outside placed reached).hosts i h at in
-    subst (λ (n : streams.Net). IsFaithful (stream_of from to n.records)) housed.last
-    (streams inside housed.nets from to is_inside housed.steps (subst (λ (n : streams.Net). IsSimple from to n.records) (sym housed.last) simple))
+    subst (λ (n : streams.Exchange). IsFaithful (stream_of from to n.records)) housed.last
+    (streams inside housed.exchanges from to is_inside housed.steps (subst (λ (n : streams.Exchange). IsSimple from to n.records) (sym housed.last) simple))

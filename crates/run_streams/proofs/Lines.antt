@@ -6,13 +6,13 @@ use Rattle.sim_base.specs.Addresses.{loopback, is_same_ip}
 use Rattle.sim_base.specs.declared.address.Addr.{Addr}
 use Rattle.sock_tcp.specs.connection.Tcb.{Tcb}
 use Rattle.tcp_laws.proofs.Tests.{by_test}
-use Rattle.tcp_streams.specs.Net as streams
+use Rattle.tcp_streams.specs.Exchange as streams
 use Rattle.tcp_streams.specs.Frame.{everywhere}
 use Rattle.tcp_streams.specs.Sound.{IsSound}
 use Rattle.tcp_streams.specs.Stream.{is_at}
 use Rattle.tcp_streams.proofs.Ends.{ends_of}
 use Rattle.tcp_streams.proofs.Members.{IsIn_from_Contains, found}
-use Rattle.tcp_streams.proofs.Promise.{net_sound}
+use Rattle.tcp_streams.proofs.Promise.{exchange_sound}
 use Rattle.out_text.specs.declared.streams.Fate.TheVariants.{Counted}
 use Rattle.out_text.specs.declared.streams.Stream.{Stream}
 use Rattle.host_sockets.specs.declared.streams.HostStream.{HostStream}
@@ -24,7 +24,7 @@ use Rattle.host_state.specs.HostRecord.{HostRecord}
 use Rattle.host_state.specs.World.{World, opening_world}
 use Rattle.host_state.specs.WorldStreams.{kept_by, streams_in}
 use Rattle.socket_streams.specs.Inside.{IsHome}
-use Rattle.run_streams.specs.Nets.{host_records, world_records}
+use Rattle.run_streams.specs.Exchanges.{host_records, world_records}
 use Rattle.run_streams.specs.Run.{IsReached, AreHosts}
 use Rattle.run_streams.proofs.Alone.{flat_gives, map_gives, mapped_from, alone}
 use Rattle.run_streams.proofs.Counts.{Holds, unused_holds, ends_hold, told_of_fate}
@@ -56,8 +56,8 @@ module _ (net : Net) (rows : List Row) (w : World) (are : AreHosts net rows) (re
   sound : (i : ℕ) (h : HostRecord) (r : Tcb) → slice_get w.hosts i ≡ Some h → Contains (host_records h) r → IsSound r
   sound i h r at c =
       let led = run_led net rows w reached in
-      net_sound everywhere led.nets led.steps r
-      (subst (λ (n : streams.Net). Contains n.records r) (sym led.last) (flat_member host_records w.hosts i h r at c))
+      exchange_sound everywhere led.exchanges led.steps r
+      (subst (λ (n : streams.Exchange). Contains n.records r) (sym led.last) (flat_member host_records w.hosts i h r at c))
 
   -- a record between hosts is at the host that has its own address
   at_address : (i : ℕ) (h : HostRecord) (own peer : Addr) (r : Tcb) → (at : slice_get w.hosts i ≡ Some h) → is_same_ip own.ip loopback ≡ false → Contains (host_records h) r → is_at own peer r ≡ true → is_same_ip own.ip (homed i h at).row.address ≡ true

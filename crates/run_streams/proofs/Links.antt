@@ -26,7 +26,7 @@ use Rattle.host_link.specs.Wants.{does_want, does_all, does_wants}
 use Rattle.host_link.specs.Lanes.{with_up, with_down}
 use Rattle.host_link.specs.Link.{LinkState, event_of, not_before_next, numbers, makes, later, logs}
 use Rattle.host_link.specs.Sending.{Wire, route_to, is_bootstrapping, loses, takes_its_chance, takes_route, takes_route_if, leaves, leave_all, makes_if, goes_on, goes_up, stays_here, loops, sends, drop_all, up_comes}
-use Rattle.run_streams.specs.Nets.{carried_by, carried, packets_carried, waiting_in, link_packets}
+use Rattle.run_streams.specs.Exchanges.{carried_by, carried, packets_carried, waiting_in, link_packets}
 use Rattle.run_streams.proofs.Every.{Every, every_append, every_with, mapped, every_mapped, given, every_given}
 use Rattle.run_streams.proofs.Lanes.{EachWaits, PushFits, push_fits, release_fits}
 

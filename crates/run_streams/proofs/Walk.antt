@@ -47,7 +47,7 @@ use Rattle.host_state.specs.Slice.{has_task, with_task, number_in, arguments_in,
 use Rattle.call_streams.proofs.Table.{call_moves, ended_moves, starts_move, alarmed_moves}
 use Rattle.socket_streams.proofs.Moving.{moves_none}
 use Rattle.call_streams.specs.Parts.{sockets_in}
-use Rattle.run_streams.specs.Nets.{carried_by, waiting_in, packets_carried, link_packets}
+use Rattle.run_streams.specs.Exchanges.{carried_by, waiting_in, packets_carried, link_packets}
 use Rattle.run_streams.proofs.Every.{every_here, mapped}
 use Rattle.run_streams.proofs.Lanes.{EachWaits, PushFits, push_fits, release_fits}
 use Rattle.run_streams.proofs.Links.{FitsMade, carries_makes, carries_makes_if, carries_logs, carries_down, carries_drop_all, came_up}

@@ -1,4 +1,4 @@
--- each turn of a run leads from the net of its world to that of the next
+-- each turn of a run leads from the exchange of its world to that of the next
 use Rattle.std.proofs.Common.{◌≡◌, inl, ⊎_elim, ℕ, zero, suc, ◌+◌, Bool, true, false, nat_lt, List, [], ◌∷◌, ◌++◌, map, flat_map, set, Contains, Option, Some, None, unwrap_or, if◌then◌else◌, slice_get, refl, sym, ap, subst, ◌∙◌, append-nil}
 use Rattle.std.specs.List.Sorted.{IsPermutation}
 use Rattle.std.proofs.lemmas.List.Elements.{Contains-append_left, Contains-append_right, Contains-append_cases, filter_map-append}
@@ -10,9 +10,9 @@ use Rattle.sim_base.specs.declared.event.Event.{Event}
 use Rattle.sim_base.specs.declared.event.What.TheVariants as what
 use Rattle.sim_base.specs.declared.packet.Packet.{Packet}
 use Rattle.sim_base.specs.declared.time.Time.{Time}
-use Rattle.tcp_streams.specs.Net as streams
-use Rattle.tcp_streams.specs.Net.{empty_net, AreSteps, last_net}
-use Rattle.tcp_streams.specs.Net.Step.{goes_on}
+use Rattle.tcp_streams.specs.Exchange as streams
+use Rattle.tcp_streams.specs.Exchange.{empty_exchange, AreSteps, last_exchange}
+use Rattle.tcp_streams.specs.Exchange.Step.{goes_on}
 use Rattle.tcp_streams.specs.Frame.{everywhere}
 use Rattle.tcp_streams.specs.Stream.{IsSimple, stream_of, IsFaithful}
 use Rattle.tcp_streams.proofs.Members.{Contains_here, Contains_there, IsIn_from_Contains}
@@ -42,7 +42,7 @@ use Rattle.socket_streams.proofs.Acts.{none_plain}
 use Rattle.socket_streams.proofs.Chains.{both, goes}
 use Rattle.socket_streams.proofs.Shares.{same_permutation, share_of, AllHold, set_hold}
 use Rattle.call_streams.specs.Parts.{sockets_in}
-use Rattle.run_streams.specs.Nets.{carried, waiting_in, packets_carried, link_packets, host_packets, host_records, world_records, world_net}
+use Rattle.run_streams.specs.Exchanges.{carried, waiting_in, packets_carried, link_packets, host_packets, host_records, world_records, world_exchange}
 use Rattle.run_streams.specs.Run.{IsReached}
 use Rattle.run_streams.specs.Run.IsReached.{begins, turns}
 use Rattle.run_streams.proofs.Every.{every_here, given, every_given, flat_member, flat_set_cases}
@@ -167,13 +167,13 @@ pub turn_of : (net : Net) (w v : World) → next (model net) net.stop.nanos w �
 unfolding next
 turn_of net w v k = turn_by net w v (take_least w.events) refl k
 
--- ---- it leads from the net of all hosts to the next one
+-- ---- it leads from the exchange of all hosts to the next one
 
 pub record WorldMoves (net : Net) (w v : World) : Type 0 where
   pub known : AllKnown net v
-  pub nets : List streams.Net
-  pub steps : AreSteps everywhere (world_net w) nets
-  pub last : last_net (world_net w) nets ≡ world_net v
+  pub exchanges : List streams.Exchange
+  pub steps : AreSteps everywhere (world_exchange w) exchanges
+  pub last : last_exchange (world_exchange w) exchanges ≡ world_exchange v
 
 -- the other events were there before
 pub rest_carried : (w : World) (e : Event) (rest : List Event) (p : Packet) → IsPermutation w.events (e ∷ rest) → Contains (packets_carried rest) p → Contains (packets_carried w.events) p
@@ -195,7 +195,7 @@ nobody net w e rest taken known =
     let all = flat_map host_packets w.hosts in
     record {
       known = known;
-      nets = world_net v ∷ [];
+      exchanges = world_exchange v ∷ [];
       steps = (
         goes_on (IsPermutation-refl (world_records w))
             (λ p c.
@@ -225,7 +225,7 @@ somebody net w e rest h at taken known =
     let out = packets_of h.parts.shared.outlet in
     let left = packets_of after.parts.shared.outlet in
     let made = packets_carried after.link.made in
-    let enters = goes everywhere k.own (world_net w) (part_of share.rest flying h)
+    let enters = goes everywhere k.own (world_exchange w) (part_of share.rest flying h)
     (IsPermutation-sym (world_records w) (host_records h ++ share.rest) share.here)
     (λ p c.
     inl (⊎_elim
@@ -244,7 +244,7 @@ somebody net w e rest h at taken known =
     (Contains-append_cases (link_packets after.link) left p c) in
     let before : (p : Packet) → Contains flying p → Contains ((flying ++ link_packets after.link) ++ left) p =
     λ p c. Contains-append_left (flying ++ link_packets after.link) left p (Contains-append_left flying (link_packets after.link) p c) in
-    let leaves = goes everywhere k.own (part_of share.rest flying after) (world_net v)
+    let leaves = goes everywhere k.own (part_of share.rest flying after) (world_exchange v)
     (share.put f.host)
     (λ p c.
     inl (⊎_elim
@@ -259,8 +259,8 @@ somebody net w e rest h at taken known =
     (λ b. fits p (Contains-append_left (link_packets after.link) left p (made_member after.link p b)))
     (Contains-append_cases (packets_carried rest) made p (subst (λ (xs : List Packet). Contains xs p) (filter_map-append carried rest after.link.made) a)))
     (Contains-append_cases (flat_map host_packets (set w.hosts (home net e) f.host)) (packets_carried (rest ++ after.link.made)) p c))) in
-    let led = both everywhere k.own (world_net w) (part_of share.rest flying h) (world_net v) enters
-    (both everywhere k.own (part_of share.rest flying h) (part_of share.rest flying after) (world_net v) m.leads leaves) in
+    let led = both everywhere k.own (world_exchange w) (part_of share.rest flying h) (world_exchange v) enters
+    (both everywhere k.own (part_of share.rest flying h) (part_of share.rest flying after) (world_exchange v) m.leads leaves) in
     record {
       known = set_hold (IsKnown net) w.hosts (home net e) f.host known (record {
         own = k.own;
@@ -270,7 +270,7 @@ somebody net w e rest h at taken known =
         acts = k.acts ++ m.acts;
         history = sockets_joined net.known.book k.acts m.acts (no_sockets k.own, nothing_wanted k.draws) (sockets_in h.parts) (sockets_in after.parts) k.history m.after;
       });
-      nets = led.nets;
+      exchanges = led.exchanges;
       steps = led.steps;
       last = led.last;
     }
@@ -289,16 +289,16 @@ turn_leads net w v k known =
 
 pub record IsLed (net : Net) (w : World) : Type 0 where
   pub known : AllKnown net w
-  pub nets : List streams.Net
-  pub steps : AreSteps everywhere empty_net nets
-  pub last : last_net empty_net nets ≡ world_net w
+  pub exchanges : List streams.Exchange
+  pub steps : AreSteps everywhere empty_exchange exchanges
+  pub last : last_exchange empty_exchange exchanges ≡ world_exchange w
 
 opening_led : (net : Net) (rows : List Row) → IsLed net (opening_world rows)
 opening_led net rows =
     let w : World = opening_world rows in
     record {
       known = rows_hold (IsKnown net) rows (row_known net);
-      nets = world_net w ∷ [];
+      exchanges = world_exchange w ∷ [];
       steps = (
         goes_on (same_permutation (world_records w) [] (rows_records rows))
             (λ p c.
@@ -311,13 +311,13 @@ opening_led net rows =
 
 led_on : (net : Net) (w v : World) → IsLed net w → WorldMoves net w v → IsLed net v
 led_on net w v led m =
-    let more = subst (λ (n : streams.Net). AreSteps everywhere n m.nets) (sym led.last) m.steps in
-    let all = joined everywhere empty_net led.nets m.nets led.steps more in
+    let more = subst (λ (n : streams.Exchange). AreSteps everywhere n m.exchanges) (sym led.last) m.steps in
+    let all = joined everywhere empty_exchange led.exchanges m.exchanges led.steps more in
     record {
       known = m.known;
-      nets = led.nets ++ m.nets;
+      exchanges = led.exchanges ++ m.exchanges;
       steps = all.0;
-      last = all.1 ∙ (ap (λ (n : streams.Net). last_net n m.nets) led.last ∙ m.last);
+      last = all.1 ∙ (ap (λ (n : streams.Exchange). last_exchange n m.exchanges) led.last ∙ m.last);
     }
 
 pub run_led : (net : Net) (rows : List Row) (w : World) → IsReached net (opening_world rows) w → IsLed net w
@@ -329,5 +329,5 @@ run_led net rows w (turns u v reached k) =
 pub wide : (net : Net) (rows : List Row) (w : World) (from to : Addr) → IsReached net (opening_world rows) w → IsSimple from to (world_records w) → IsFaithful (stream_of from to (world_records w))
 wide net rows w from to reached simple =
     let led = run_led net rows w reached in
-    subst (λ (n : streams.Net). IsFaithful (stream_of from to n.records)) led.last
-    (streams everywhere led.nets from to refl led.steps (subst (λ (n : streams.Net). IsSimple from to n.records) (sym led.last) simple))
+    subst (λ (n : streams.Exchange). IsFaithful (stream_of from to n.records)) led.last
+    (streams everywhere led.exchanges from to refl led.steps (subst (λ (n : streams.Exchange). IsSimple from to n.records) (sym led.last) simple))

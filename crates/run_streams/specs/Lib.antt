@@ -1,3 +1,3 @@
-pub mod Nets
+pub mod Exchanges
 pub mod Run
 pub mod Past

@@ -31,7 +31,7 @@ ghost use Rattle.out_text.specs.declared.streams.Stream.{Stream};
 ghost use Rattle.socket_laws.specs.Apart.{BoundApart, BoundHere};
 ghost use Rattle.socket_laws.specs.Pairs.{live_records};
 ghost use Rattle.socket_streams.specs.Home.{AreAtHome};
-ghost use Rattle.run_streams.specs.Nets.{host_records, world_records};
+ghost use Rattle.run_streams.specs.Exchanges.{host_records, world_records};
 ghost use Rattle.run_streams.specs.Past.{TellsStays, WasLogged};
 ghost use Rattle.run_streams.specs.Run.{IsReached, HasHistory, AreOutside, ArePlaced, AreHosts};
 

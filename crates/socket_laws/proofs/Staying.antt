@@ -25,7 +25,7 @@ use Rattle.sock_tcp.specs.connection.Ending.{ended, vanished, ends, vanishes}
 use Rattle.sock_tcp.specs.connection.Timer.{needs_timer, is_in_flight, timer_set, judged, restarted, restarts}
 use Rattle.sock_tcp.specs.connection.Output.{sends_text, fin_is_next, moves_next, sends_fin, follows, output}
 use Rattle.sock_tcp.specs.connection.Retransmission.{sends_again_text, sends_again, sends_syn, sends_syn_again, sends_one}
-use Rattle.sock_tcp.specs.connection.Arrival.{verdict, peer_known, established, establishes, state_advanced, advanced, restarts_timer, advances, duplicate_heard, hears_duplicate, notices, fitting_text, keeps, discards, takes, receives_text, fin_is_due, fin_received, receives_fin, wants_ack, answers, waits_again, unless_over, concludes, receives, connects, acts_on, takes_segment, takes_load, takes_packet}
+use Rattle.sock_tcp.specs.connection.Arrival.{verdict, peer_known, established, establishes, state_advanced, advanced, restarts_timer, advances, duplicate_heard, hears_duplicate, notices, fitting_text, keeps, discards, text_comes, receives_text, fin_is_due, fin_received, receives_fin, wants_ack, answers, waits_again, unless_over, concludes, receives, connects, acts_on, takes_segment, takes_load, takes_packet}
 use Rattle.sock_tcp.specs.connection.Process.{writes, reads, ack_paid, pays_ack, flows_on, flows, ends_writing, ends_reading, shuts_end, shuts, socket_closed, closes_socket, closes, error_taken, backs_off, counts_expiry, retries_once, gives_up, expires_running, expires}
 use Rattle.tcp_laws.proofs.Tests.{by_test}
 
@@ -189,8 +189,8 @@ same_discards : (own other : Addr) (b : Bool) (count : ℕ) (t : Turn) → Is ow
 unfolding discards
 same_discards own other b count t h = record { local = h.local; peer = h.peer; over = h.over }
 
-same_takes : (own other : Addr) (b : Bool) (bytes : List ℕ) (t : Turn) → Is own other b t → Is own other b (takes bytes t)
-unfolding takes
+same_takes : (own other : Addr) (b : Bool) (bytes : List ℕ) (t : Turn) → Is own other b t → Is own other b (text_comes bytes t)
+unfolding text_comes
 same_takes own other b bytes t h =
     by_test (Is own other b) (length bytes == 0) _ _ (λ e. h)
     (λ e. by_test (Is own other b) t.tcb.control.closed _ _

@@ -25,7 +25,7 @@ use Rattle.sock_tcp.specs.connection.Ending.{ended, vanished, ends, vanishes}
 use Rattle.sock_tcp.specs.connection.Timer.{needs_timer_in, needs_timer, is_in_flight, timer_set, judged, restarted, restarts}
 use Rattle.sock_tcp.specs.connection.Output.{sends_text, fin_is_next, moves_next, sends_fin, follows, output}
 use Rattle.sock_tcp.specs.connection.Retransmission.{sends_again_text, sends_again, sends_syn, sends_syn_again, sends_one}
-use Rattle.sock_tcp.specs.connection.Arrival.{verdict, peer_known, established, establishes, state_advanced, advanced, restarts_timer, advances, duplicate_heard, hears_duplicate, notices, fitting_text, keeps, discards, takes, receives_text, fin_is_due, fin_received, receives_fin, wants_ack, answers, waits_again, unless_over, concludes, receives, connects, acts_on, takes_segment, takes_load, takes_packet}
+use Rattle.sock_tcp.specs.connection.Arrival.{verdict, peer_known, established, establishes, state_advanced, advanced, restarts_timer, advances, duplicate_heard, hears_duplicate, notices, fitting_text, keeps, discards, text_comes, receives_text, fin_is_due, fin_received, receives_fin, wants_ack, answers, waits_again, unless_over, concludes, receives, connects, acts_on, takes_segment, takes_load, takes_packet}
 use Rattle.sock_tcp.specs.connection.Process.{fresh_tcb, answered, backs_off, counts_expiry, retries_once, gives_up, expires_running, expires}
 use Rattle.sock_tcp.specs.connection.StandsFor.{FitsPhase}
 use Rattle.tcp_laws.specs.Acts.Start.{passive}
@@ -199,8 +199,8 @@ quiet_discards : (b : Bool) (count : ℕ) (t : Turn) → Is b t → Is b (change
 unfolding discards
 quiet_discards b count t h = record { written = h.written; wanted = h.wanted; opening = h.opening; was = h.was }
 
-quiet_takes : (b : Bool) (bytes : List ℕ) (t : Turn) → Is b t → Is b (takes bytes t)
-unfolding takes
+quiet_takes : (b : Bool) (bytes : List ℕ) (t : Turn) → Is b t → Is b (text_comes bytes t)
+unfolding text_comes
 quiet_takes b bytes t h =
     by_test (Is b) (length bytes == 0) _ _ (λ e. h)
     (λ e. by_test (Is b) t.tcb.control.closed _ _

@@ -13,7 +13,7 @@ use Rattle.host_sockets.specs.Udp.{udp_in, new_udp, binds_udp, connects_udp, sen
 use Rattle.host_sockets.specs.Records.{records_of}
 use Rattle.socket_laws.specs.Histories.{SocketsAct, sockets_acted, sockets_after}
 use Rattle.socket_laws.specs.Histories.SocketsAct.{make_udp, bind_udp, connect_udp, send_udp, recv_udp, close_udp, make_tcp, bind_tcp, listen_tcp, accept_tcp, connect_tcp, connect_again, send_tcp, recv_tcp, shut_tcp, take_error, close_tcp, arrival, alarm, elsewhere}
-use Rattle.socket_streams.specs.Records.{packets_of, net_of}
+use Rattle.socket_streams.specs.Records.{packets_of, exchange_of}
 use Rattle.socket_streams.specs.Leads.{Leads}
 use Rattle.socket_streams.specs.May.{MayDo, MayAllFreely, MayAll, MovesFreely, Moves, ArePlain}
 use Rattle.socket_streams.proofs.Chains.{both, goes}
@@ -27,7 +27,7 @@ module _ (scope : Addr → Addr → Bool) (hosts : List Ip) (own : Ip) (others :
   elsewhere_reach : (t : SocketsRecord) (w after : Wanted) → MayDo (flying ++ packets_of w) (flying ++ packets_of w) (elsewhere after) → ArePlain own t → Reaches scope own others flying (t, w) (t, after)
   elsewhere_reach t w after may plain = record {
     plain = plain;
-    leads = goes scope own (net_of others flying (t, w)) (net_of others flying (t, after)) (IsPermutation-refl (records_of t ++ others))
+    leads = goes scope own (exchange_of others flying (t, w)) (exchange_of others flying (t, after)) (IsPermutation-refl (records_of t ++ others))
         (λ p c. ⊎_elim (λ k. inl (Contains-append_left flying (packets_of w) p k)) (λ k. may p k) (Contains-append_cases flying (packets_of after) p c));
   }
 
@@ -85,13 +85,13 @@ module _ (scope : Addr → Addr → Bool) (hosts : List Ip) (own : Ip) (others :
       let rest = after_reach acts next.0 next.1 first.plain may.1 in
       record {
         plain = rest.plain;
-        leads = both scope own (net_of others flying (t, w)) (net_of others flying next) (net_of others flying (sockets_after hosts acts next)) first.leads rest.leads;
+        leads = both scope own (exchange_of others flying (t, w)) (exchange_of others flying next) (exchange_of others flying (sockets_after hosts acts next)) first.leads rest.leads;
       }
 
-  pub freely_lead : (x y : SocketsRecord × Wanted) → ArePlain own x.0 → MovesFreely hosts flying x y → Leads scope own (net_of others flying x) (net_of others flying y) × ArePlain own y.0
+  pub freely_lead : (x y : SocketsRecord × Wanted) → ArePlain own x.0 → MovesFreely hosts flying x y → Leads scope own (exchange_of others flying x) (exchange_of others flying y) × ArePlain own y.0
   freely_lead x y plain moves =
       let all = after_reach moves.acts x.0 x.1 plain moves.may in (
-        subst (λ (z : SocketsRecord × Wanted). Leads scope own (net_of others flying x) (net_of others flying z)) moves.after all.leads,
+        subst (λ (z : SocketsRecord × Wanted). Leads scope own (exchange_of others flying x) (exchange_of others flying z)) moves.after all.leads,
         subst (λ (z : SocketsRecord × Wanted). ArePlain own z.0) moves.after all.plain,
       )
 
@@ -100,6 +100,6 @@ module _ (scope : Addr → Addr → Bool) (hosts : List Ip) (own : Ip) (others :
   all_may ((now, act) ∷ acts) t w may =
       let next = sockets_acted hosts now act t w in (still_may act w may.0, all_may acts next.0 next.1 may.1)
 
-  pub moves_lead : (x y : SocketsRecord × Wanted) → ArePlain own x.0 → Moves hosts flying x y → Leads scope own (net_of others flying x) (net_of others flying y) × ArePlain own y.0
+  pub moves_lead : (x y : SocketsRecord × Wanted) → ArePlain own x.0 → Moves hosts flying x y → Leads scope own (exchange_of others flying x) (exchange_of others flying y) × ArePlain own y.0
   moves_lead x y plain moves =
       freely_lead x y plain (record { acts = moves.acts; may = all_may moves.acts x.0 x.1 moves.may; after = moves.after })

@@ -15,8 +15,8 @@ use Rattle.sock_tcp.specs.connection.Process.{fresh_tcb, opened, answered}
 use Rattle.tcp_laws.specs.Acts.{Start, begun_by, IsStart, Act, acted}
 use Rattle.tcp_laws.specs.Acts.Start.{active, passive}
 use Rattle.tcp_laws.specs.Sending.{AreOf}
-use Rattle.tcp_streams.specs.Net.{Net, IsVoid, MayAct, AsksFrom, Follows, Step, AreSteps, last_net}
-use Rattle.tcp_streams.specs.Net.Step.{acts, begins, goes_on}
+use Rattle.tcp_streams.specs.Exchange.{Exchange, IsVoid, MayAct, AsksFrom, Follows, Step, AreSteps, last_exchange}
+use Rattle.tcp_streams.specs.Exchange.Step.{acts, begins, goes_on}
 use Rattle.tcp_streams.specs.Sound.{IsSound}
 use Rattle.tcp_streams.proofs.Members.{IsIn_from_Contains, Contains_here, Contains_there, Contains_cases}
 use Rattle.tcp_streams.proofs.Ends.{and_right}
@@ -26,23 +26,23 @@ use Rattle.tcp_streams.proofs.Frames.{joined}
 use Rattle.socket_streams.specs.Inside.{IsInside, StaysInside}
 use Rattle.socket_streams.specs.Leads.{Leads}
 
-pub one : (scope : Addr → Addr → Bool) (own : Ip) (m n : Net) → Step scope m n → (StaysInside own m → StaysInside own n) → Leads scope own m n
+pub one : (scope : Addr → Addr → Bool) (own : Ip) (m n : Exchange) → Step scope m n → (StaysInside own m → StaysInside own n) → Leads scope own m n
 one scope own m n step inside =
-    record { nets = n ∷ []; steps = (step, tt); last = refl; inside = inside }
+    record { exchanges = n ∷ []; steps = (step, tt); last = refl; inside = inside }
 
-pub both : (scope : Addr → Addr → Bool) (own : Ip) (m n o : Net) → Leads scope own m n → Leads scope own n o → Leads scope own m o
+pub both : (scope : Addr → Addr → Bool) (own : Ip) (m n o : Exchange) → Leads scope own m n → Leads scope own n o → Leads scope own m o
 both scope own m n o a b =
-    let next = subst (λ (x : Net). AreSteps scope x b.nets) (sym a.last) b.steps in
-    let all = joined scope m a.nets b.nets a.steps next in
+    let next = subst (λ (x : Exchange). AreSteps scope x b.exchanges) (sym a.last) b.steps in
+    let all = joined scope m a.exchanges b.exchanges a.steps next in
     record {
-      nets = a.nets ++ b.nets;
+      exchanges = a.exchanges ++ b.exchanges;
       steps = all.0;
-      last = all.1 ∙ (ap (λ (x : Net). last_net x b.nets) a.last ∙ b.last);
+      last = all.1 ∙ (ap (λ (x : Exchange). last_exchange x b.exchanges) a.last ∙ b.last);
       inside = λ h. b.inside (a.inside h);
     }
 
 -- packets alone come and go, and records are told in another order
-pub goes : (scope : Addr → Addr → Bool) (own : Ip) (m n : Net) → IsPermutation n.records m.records → ((p : Packet) → Contains n.flying p → Contains m.flying p ⊎ IsVoid p.load) → Leads scope own m n
+pub goes : (scope : Addr → Addr → Bool) (own : Ip) (m n : Exchange) → IsPermutation n.records m.records → ((p : Packet) → Contains n.flying p → Contains m.flying p ⊎ IsVoid p.load) → Leads scope own m n
 goes scope own m n same flown =
     one scope own m n
     (goes_on same (λ p c. ⊎_elim (λ k. inl k) (λ v. inr (inr (inl v))) (flown p c)))
@@ -64,7 +64,7 @@ sent_inside own r packets p h of c =
     inside_as own r.control.local r.control.peer p.from p.to sent.from sent.to h
 
 -- what a record that joins others leaves inside
-joins : (own : Ip) (m n : Net) (r : Tcb) (rest : List Tcb) (sent : List Packet) → StaysInside own m → IsPermutation n.records (r ∷ rest) → ((x : Tcb) → Contains rest x → Contains m.records x) → IsSound r → IsInside own r.control.local r.control.peer → AreOf r sent → ((p : Packet) → Contains n.flying p → Contains m.flying p ⊎ Contains sent p) → StaysInside own n
+joins : (own : Ip) (m n : Exchange) (r : Tcb) (rest : List Tcb) (sent : List Packet) → StaysInside own m → IsPermutation n.records (r ∷ rest) → ((x : Tcb) → Contains rest x → Contains m.records x) → IsSound r → IsInside own r.control.local r.control.peer → AreOf r sent → ((p : Packet) → Contains n.flying p → Contains m.flying p ⊎ Contains sent p) → StaysInside own n
 joins own m n r rest sent h same from sound ends of flown = record {
   outside = h.outside;
   sound = λ x c.
@@ -81,7 +81,7 @@ joins own m n r rest sent h same from sound ends of flown = record {
 }
 
 -- a record acts
-pub acts_among : (scope : Addr → Addr → Bool) (own : Ip) (m n : Net) (r : Tcb) (rest : List Tcb) (act : Act) → IsPermutation m.records (r ∷ rest) → MayAct m.flying r act → IsPermutation n.records ((acted act r).tcb ∷ rest) → ((p : Packet) → Contains n.flying p → Contains m.flying p ⊎ Contains (acted act r).sent p) → Leads scope own m n
+pub acts_among : (scope : Addr → Addr → Bool) (own : Ip) (m n : Exchange) (r : Tcb) (rest : List Tcb) (act : Act) → IsPermutation m.records (r ∷ rest) → MayAct m.flying r act → IsPermutation n.records ((acted act r).tcb ∷ rest) → ((p : Packet) → Contains n.flying p → Contains m.flying p ⊎ Contains (acted act r).sent p) → Leads scope own m n
 acts_among scope own m n r rest act was may is flown =
     one scope own m n
     (acts r rest act was may is (λ p c. ⊎_elim (λ k. inl k) (λ k. inr (inl k)) (flown p c)))
@@ -109,7 +109,7 @@ asked_resets_not first (Tcp flags seq ack window text) a v =
     let alone = and_right (not h.has_ack) (not h.rst) (and_right h.syn (not h.has_ack && not h.rst) a.0) in
     let no : not true ≡ true = ap not (sym v) ∙ alone in cc
 
-begins_inside : (own : Ip) (m : Net) (start : Start) → StaysInside own m → Follows m.flying start → StartsInside own start → IsInside own (begun_by start).tcb.control.local (begun_by start).tcb.control.peer
+begins_inside : (own : Ip) (m : Exchange) (start : Start) → StaysInside own m → Follows m.flying start → StartsInside own start → IsInside own (begun_by start).tcb.control.local (begun_by start).tcb.control.peer
 unfolding opened answered fresh_tcb fresh_control
 begins_inside own m (active local peer iss) h follows inside = record { from = inside.from; to = inside.to }
 begins_inside own m (passive local peer iss seq) h follows inside =
@@ -117,7 +117,7 @@ begins_inside own m (passive local peer iss seq) h follows inside =
     ⊎_elim (λ v. absurd (asked_resets_not seq follows.packet.load follows.asks v)) (λ k. k) (h.packets follows.packet follows.flies) in
     inside_as own follows.packet.to follows.packet.from local peer (sym follows.to) (sym follows.from) (record { from = flown.to; to = flown.from })
 
-pub begins_among : (scope : Addr → Addr → Bool) (own : Ip) (m n : Net) (start : Start) → IsStart start → Follows m.flying start → (is_same_ip own loopback ≡ false → StartsInside own start) → IsPermutation n.records ((begun_by start).tcb ∷ m.records) → ((p : Packet) → Contains n.flying p → Contains m.flying p ⊎ Contains (begun_by start).sent p) → Leads scope own m n
+pub begins_among : (scope : Addr → Addr → Bool) (own : Ip) (m n : Exchange) (start : Start) → IsStart start → Follows m.flying start → (is_same_ip own loopback ≡ false → StartsInside own start) → IsPermutation n.records ((begun_by start).tcb ∷ m.records) → ((p : Packet) → Contains n.flying p → Contains m.flying p ⊎ Contains (begun_by start).sent p) → Leads scope own m n
 begins_among scope own m n start is_start follows inside is flown =
     one scope own m n
     (begins start is_start follows is (λ p c. ⊎_elim (λ k. inl k) (λ k. inr (inl k)) (flown p c)))

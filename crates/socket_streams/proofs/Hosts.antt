@@ -16,7 +16,7 @@ use Rattle.host_sockets.specs.TcpSocket.{TcpSocket, is_free}
 use Rattle.host_sockets.specs.Sockets.{SocketsRecord, with_tcp, changes_in, changes_at, put_at, tcp_place, put_tcp}
 use Rattle.host_sockets.specs.TcpActs.{Acted, acts_in, acts_at}
 use Rattle.host_sockets.specs.Records.{own_record, kept_records, records_at, records_of}
-use Rattle.socket_streams.specs.Records.{packets_of, net_with, net_of}
+use Rattle.socket_streams.specs.Records.{packets_of, exchange_with, exchange_of}
 use Rattle.socket_streams.specs.Leads.{Leads}
 use Rattle.socket_streams.specs.May.{IsPlain, ArePlain}
 use Rattle.socket_streams.proofs.Chains.{both, goes}
@@ -26,13 +26,13 @@ use Rattle.socket_streams.proofs.Turns.{Does}
 -- what is reached from the sockets of a host and what is wanted, beside others
 pub record Reaches (scope : Addr → Addr → Bool) (own : Ip) (others : List Tcb) (flying : List Packet) (x y : SocketsRecord × Wanted) : Type 0 where
   pub plain : ArePlain own y.0
-  pub leads : Leads scope own (net_of others flying x) (net_of others flying y)
+  pub leads : Leads scope own (exchange_of others flying x) (exchange_of others flying y)
 
 -- the same records, and no packets but those
 pub same_reach : (scope : Addr → Addr → Bool) (own : Ip) (others : List Tcb) (flying : List Packet) (t t' : SocketsRecord) (w : Wanted) → ArePlain own t' → IsPermutation (records_of t') (records_of t) → Reaches scope own others flying (t, w) (t', w)
 same_reach scope own others flying t t' w plain same = record {
   plain = plain;
-  leads = goes scope own (net_of others flying (t, w)) (net_of others flying (t', w)) (IsPermutation-append_left others (records_of t') (records_of t) same) (λ p c. inl c);
+  leads = goes scope own (exchange_of others flying (t, w)) (exchange_of others flying (t', w)) (IsPermutation-append_left others (records_of t') (records_of t) same) (λ p c. inl c);
 }
 
 pub rests_reach : (scope : Addr → Addr → Bool) (own : Ip) (others : List Tcb) (flying : List Packet) (t : SocketsRecord) (w : Wanted) → ArePlain own t → Reaches scope own others flying (t, w) (t, w)
@@ -40,12 +40,12 @@ rests_reach scope own others flying t w plain =
     same_reach scope own others flying t t w plain (IsPermutation-refl (records_of t))
 
 -- records that are told in another order
-arranged : (scope : Addr → Addr → Bool) (own : Ip) (was before is after : List Tcb) (flying then : List Packet) → IsPermutation was before → IsPermutation is after → Leads scope own (net_with before flying) (net_with after then) → Leads scope own (net_with was flying) (net_with is then)
+arranged : (scope : Addr → Addr → Bool) (own : Ip) (was before is after : List Tcb) (flying then : List Packet) → IsPermutation was before → IsPermutation is after → Leads scope own (exchange_with before flying) (exchange_with after then) → Leads scope own (exchange_with was flying) (exchange_with is then)
 arranged scope own was before is after flying then p q leads =
-    both scope own (net_with was flying) (net_with before flying) (net_with is then)
-    (goes scope own (net_with was flying) (net_with before flying) (IsPermutation-sym was before p) (λ x c. inl c))
-    (both scope own (net_with before flying) (net_with after then) (net_with is then) leads
-    (goes scope own (net_with after then) (net_with is then) q (λ x c. inl c)))
+    both scope own (exchange_with was flying) (exchange_with before flying) (exchange_with is then)
+    (goes scope own (exchange_with was flying) (exchange_with before flying) (IsPermutation-sym was before p) (λ x c. inl c))
+    (both scope own (exchange_with before flying) (exchange_with after then) (exchange_with is then) leads
+    (goes scope own (exchange_with after then) (exchange_with is then) q (λ x c. inl c)))
 
 -- one socket's part of all records, before an act and after it
 part_before : (all part rest gone others : List Tcb) → IsPermutation all (part ++ rest) → IsPermutation ((all ++ gone) ++ others) (part ++ (rest ++ (gone ++ others)))

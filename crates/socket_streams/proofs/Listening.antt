@@ -1,4 +1,4 @@
--- the acts of a listener: the records that it keeps no more stay in the net
+-- the acts of a listener: the records that it keeps no more stay in the exchange
 use Rattle.std.proofs.Common.{◌≡◌, ◌⊎◌, inl, ⊎_elim, ℕ, ◌%◌, ◌^◌, ◌&&◌, Bool, true, false, not, if◌then◌else◌, List, [], ◌∷◌, ◌++◌, slice_get, Contains, Option, Some, None, unwrap_or, refl, sym, ap, subst, ◌∙◌, append_assoc, append-nil, arith}
 use Rattle.std.specs.List.{remove}
 use Rattle.std.specs.List.Sorted.{IsPermutation}
@@ -21,11 +21,11 @@ use Rattle.tcp_laws.specs.Acts.{Act, act_of, acted}
 use Rattle.tcp_laws.specs.Acts.Start.{passive}
 use Rattle.tcp_laws.specs.Acts.Act.{arrival, expiry}
 use Rattle.tcp_laws.proofs.Tests.{by_test}
-use Rattle.tcp_streams.specs.Net.{MayAct, AsksFrom}
+use Rattle.tcp_streams.specs.Exchange.{MayAct, AsksFrom}
 use Rattle.tcp_streams.proofs.Members.{IsIn_from_Contains, found}
 use Rattle.tcp_streams.proofs.Ends.{and_left, and_right, same_end}
 use Rattle.sock_tcp.specs.listener.Dropped.{dropped_by, dropped}
-use Rattle.socket_streams.specs.Records.{net_with}
+use Rattle.socket_streams.specs.Records.{exchange_with}
 use Rattle.socket_streams.specs.Leads.{Leads}
 use Rattle.socket_streams.proofs.Chains.{goes, acts_among, begins_among}
 use Rattle.socket_streams.proofs.Slots.{others_of}
@@ -37,11 +37,11 @@ Flown before sent after = (p : Packet) → Contains after p → Contains before 
 -- what an act leaves, beside the records that left the listener
 abbrev pub LeadsBeside : (Addr → Addr → Bool) → Ip → Listen → Heard → List Tcb → List Tcb → List Packet → List Packet → Type 0
 LeadsBeside scope own l heard gone others flying after =
-    Leads scope own (net_with (l.records ++ others) flying) (net_with (heard.listen.records ++ (gone ++ others)) after)
+    Leads scope own (exchange_with (l.records ++ others) flying) (exchange_with (heard.listen.records ++ (gone ++ others)) after)
 
 nothing : (scope : Addr → Addr → Bool) (own : Ip) (l : Listen) (others : List Tcb) (flying after : List Packet) → Flown flying [] after → LeadsBeside scope own l (nothing_heard l) [] others flying after
 nothing scope own l others flying after flown =
-    goes scope own (net_with (l.records ++ others) flying) (net_with (l.records ++ others) after) (IsPermutation-refl (l.records ++ others))
+    goes scope own (exchange_with (l.records ++ others) flying) (exchange_with (l.records ++ others) after) (IsPermutation-refl (l.records ++ others))
     (λ p c. ⊎_elim (λ k. inl k) (λ k. absurd (IsIn_from_Contains p [] k)) (flown p c))
 
 -- the record at a place, and what is left after its act
@@ -76,7 +76,7 @@ record_leads scope own l place act r others flying after e may flown =
     let left : IsPermutation (kept ++ gone) (t ∷ o.rest) =
     leaves t.control.was_established (is_over t.control.state) r.control.was_established place t (replaced place t l) o.rest (o.put t) (o.gone t) in
     let moved = subst (λ (xs : List Tcb). IsPermutation xs (t ∷ (o.rest ++ others))) (append_assoc kept gone others) (IsPermutation-append_left others (kept ++ gone) (t ∷ o.rest) left) in
-    acts_among scope own (net_with (l.records ++ others) flying) (net_with (kept ++ (gone ++ others)) after) r (o.rest ++ others) act
+    acts_among scope own (exchange_with (l.records ++ others) flying) (exchange_with (kept ++ (gone ++ others)) after) r (o.rest ++ others) act
     (IsPermutation-append_left others l.records (r ∷ o.rest) o.here) may moved flown
 
 -- the record of two ends is at them
@@ -102,7 +102,7 @@ unfolding record_made
 makes scope own l p word first others flying after c a flown =
     let t = (answered p.to p.from (word % 2 ^ 32) first).tcb in
     let front = subst (λ (xs : List Tcb). IsPermutation xs (t ∷ (l.records ++ others))) (sym (append_assoc l.records (t ∷ []) others)) (IsPermutation-middle l.records t others) in
-    begins_among scope own (net_with (l.records ++ others) flying) (net_with ((l.records ++ t ∷ []) ++ others) after)
+    begins_among scope own (exchange_with (l.records ++ others) flying) (exchange_with ((l.records ++ t ∷ []) ++ others) after)
     (passive p.to p.from (word % 2 ^ 32) first) (omega arith)
     (record { packet = p; flies = c; to = refl; from = refl; asks = a }) (λ apart. tt) front flown
 

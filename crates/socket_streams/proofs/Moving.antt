@@ -4,7 +4,7 @@ use Rattle.std.proofs.lemmas.List.Elements.{Contains-append_right, Contains-appe
 use Rattle.sim_base.specs.declared.address.Ip.{Ip}
 use Rattle.sim_base.specs.declared.packet.Packet.{Packet}
 use Rattle.sim_base.specs.declared.time.Time.{Time}
-use Rattle.tcp_streams.specs.Net.{IsVoid}
+use Rattle.tcp_streams.specs.Exchange.{IsVoid}
 use Rattle.tcp_streams.proofs.Members.{IsIn_from_Contains}
 use Rattle.host_wants.specs.declared.error.Refusal.{Refusal}
 use Rattle.host_wants.specs.Wanted.{Wanted, sends}

@@ -22,7 +22,7 @@ use Rattle.sock_tcp.specs.connection.Tcb.{Tcb, changed}
 use Rattle.sock_tcp.specs.connection.Process.{shuts, error_taken}
 use Rattle.sock_tcp.specs.listener.Listen.{Listen, fresh_listen}
 use Rattle.tcp_laws.specs.Acts.Act.{write, read, flow, shut, error_read}
-use Rattle.tcp_streams.specs.Net.{IsVoid}
+use Rattle.tcp_streams.specs.Exchange.{IsVoid}
 use Rattle.tcp_streams.proofs.Members.{IsIn_from_Contains}
 use Rattle.tcp_streams.proofs.Voids.{refusal_void}
 use Rattle.host_wants.specs.declared.error.Refusal.{Refusal}
@@ -48,7 +48,7 @@ use Rattle.socket_laws.proofs.SourceEnds.{first_ok, next_ok, connect_source, con
 use Rattle.socket_laws.proofs.ApartTcp.{then_ok}
 use Rattle.socket_laws.proofs.HereActs.{IsBoundHere, used_here, bound_here}
 use Rattle.socket_laws.proofs.Sums.{position_holds}
-use Rattle.socket_streams.specs.Records.{packets_of, net_of}
+use Rattle.socket_streams.specs.Records.{packets_of, exchange_of}
 use Rattle.socket_streams.specs.Inside.{IsHome, IsInside}
 use Rattle.socket_streams.specs.May.{IsPlain, ArePlain}
 use Rattle.socket_streams.proofs.Chains.{goes}
@@ -306,7 +306,7 @@ module _ (scope : Addr → Addr → Bool) (own : Ip) (others : List Tcb) (flying
   refused_reach p None t w e plain = rests_reach scope own others flying t w plain
   refused_reach p (Some q) t w e plain = record {
     plain = plain;
-    leads = goes scope own (net_of others flying (t, w)) (net_of others flying (t, sends (q ∷ []) w)) (IsPermutation-refl (records_of t ++ others))
+    leads = goes scope own (exchange_of others flying (t, w)) (exchange_of others flying (t, sends (q ∷ []) w)) (IsPermutation-refl (records_of t ++ others))
         (λ x c.
         ⊎_elim
         (λ b. inl b)

@@ -26,7 +26,7 @@ use Rattle.sock_tcp.specs.connection.Ending.{ended, vanished, ends, vanishes}
 use Rattle.sock_tcp.specs.connection.Timer.{needs_timer, is_in_flight, timer_set, judged, restarted, restarts}
 use Rattle.sock_tcp.specs.connection.Output.{pieces, text_segments, to_send, sends_text, fin_is_next, moves_next, sends_fin, follows, output}
 use Rattle.sock_tcp.specs.connection.Retransmission.{unacknowledged, probe_length, sends_again_text, sends_again, sends_syn, sends_syn_again, sends_one}
-use Rattle.sock_tcp.specs.connection.Arrival.{verdict, peer_known, established, establishes, advanced, restarts_timer, advances, duplicate_heard, hears_duplicate, notices, fitting_text, keeps, discards, takes, receives_text, fin_is_due, fin_received, receives_fin, wants_ack, answers, waits_again, unless_over, concludes, receives, connects, acts_on, takes_segment, takes_load, takes_packet}
+use Rattle.sock_tcp.specs.connection.Arrival.{verdict, peer_known, established, establishes, advanced, restarts_timer, advances, duplicate_heard, hears_duplicate, notices, fitting_text, keeps, discards, text_comes, receives_text, fin_is_due, fin_received, receives_fin, wants_ack, answers, waits_again, unless_over, concludes, receives, connects, acts_on, takes_segment, takes_load, takes_packet}
 use Rattle.sock_tcp.specs.connection.Process.{fresh_tcb, opened, answered, writes, reads, ack_paid, pays_ack, flows_on, flows, ends_writing, ends_reading, shuts_end, shuts, socket_closed, closes_socket, closes, error_taken, backs_off, counts_expiry, retries_once, gives_up, expires_running, expires}
 use Rattle.tcp_laws.proofs.Tests.{by_test}
 
@@ -207,8 +207,8 @@ goes_discards : (own other : Addr) (count : ℕ) (t : Turn) → Is own other t �
 unfolding discards
 goes_discards own other count t h = record { local = h.local; peer = h.peer; sent = h.sent }
 
-goes_takes : (own other : Addr) (bytes : List ℕ) (t : Turn) → Is own other t → Is own other (takes bytes t)
-unfolding takes
+goes_takes : (own other : Addr) (bytes : List ℕ) (t : Turn) → Is own other t → Is own other (text_comes bytes t)
+unfolding text_comes
 goes_takes own other bytes t h =
     by_test (Is own other) (length bytes == 0) _ _ (λ e. h)
     (λ e. by_test (Is own other) t.tcb.control.closed _ _

@@ -22,7 +22,7 @@ use Rattle.host_sockets.specs.Closing.{unheld, closes_in, closed}
 use Rattle.host_sockets.specs.Arriving.{record_takes, word_drawn, hears_in, listener_hears}
 use Rattle.host_sockets.specs.Alarms.{kept_timer, kept_expires, timer_expires, socket_expires}
 use Rattle.host_sockets.specs.Records.{own_record, kept_records, records_at}
-use Rattle.socket_streams.specs.Records.{packets_of, net_with}
+use Rattle.socket_streams.specs.Records.{packets_of, exchange_with}
 use Rattle.socket_streams.specs.Leads.{Leads}
 use Rattle.socket_streams.specs.May.{IsPlain}
 use Rattle.socket_streams.proofs.Chains.{goes}
@@ -49,8 +49,8 @@ heard_does scope own flying now k a b l h gone s w from e plain same leads =
           let is : h.listen.records ++ (gone ++ others) ≡ ((own_record s.tcb ++ h.listen.records) ++ gone) ++ others =
           sym (append_assoc h.listen.records gone others)
           ∙ ap (λ (o : Option Tcb). ((own_record o ++ h.listen.records) ++ gone) ++ others) (sym none) in
-          subst (λ (xs : List Tcb). Leads scope own (net_with (xs ++ others) before) (net_with (((own_record s.tcb ++ h.listen.records) ++ gone) ++ others) after)) (sym was)
-          (subst (λ (xs : List Tcb). Leads scope own (net_with (l.records ++ others) before) (net_with xs after)) is (leads others after flown));
+          subst (λ (xs : List Tcb). Leads scope own (exchange_with (xs ++ others) before) (exchange_with (((own_record s.tcb ++ h.listen.records) ++ gone) ++ others) after)) (sym was)
+          (subst (λ (xs : List Tcb). Leads scope own (exchange_with (l.records ++ others) before) (exchange_with xs after)) is (leads others after flown));
     }
 
 -- the word that is drawn for a new record sends nothing
@@ -109,7 +109,7 @@ closes_does_in scope own flying now k None s w e plain =
     record {
       plain = does.plain;
       leads = λ others.
-          subst (λ (xs : List Tcb). Leads scope own (net_with (xs ++ others) (flying ++ packets_of w)) (net_with ((records_at a.socket ++ a.gone) ++ others) (flying ++ packets_of a.wanted))) same (does.leads others);
+          subst (λ (xs : List Tcb). Leads scope own (exchange_with (xs ++ others) (flying ++ packets_of w)) (exchange_with ((records_at a.socket ++ a.gone) ++ others) (flying ++ packets_of a.wanted))) same (does.leads others);
     }
 closes_does_in scope own flying now k (Some l) s w e plain =
     let was : l.records ≡ records_at s =
@@ -119,7 +119,7 @@ closes_does_in scope own flying now k (Some l) s w e plain =
     record {
       plain = record { listens = λ m q. cc; here = λ at q. cc };
       leads = λ others.
-          goes scope own (net_with (records_at s ++ others) (flying ++ packets_of w)) (net_with (l.records ++ others) (flying ++ packets_of (sends resets w)))
+          goes scope own (exchange_with (records_at s ++ others) (flying ++ packets_of w)) (exchange_with (l.records ++ others) (flying ++ packets_of (sends resets w)))
           (same_permutation (l.records ++ others) (records_at s ++ others) (ap (λ (xs : List Tcb). xs ++ others) was))
           (λ p c. ⊎_elim (λ b. inl b) (λ r. inr (resets_void l.records p r)) (sends_flown flying resets w p c));
     }

@@ -13,12 +13,12 @@ use Rattle.sock_tcp.specs.listener.Listen.{Listen}
 use Rattle.tcp_laws.specs.Acts.{Act, acted}
 use Rattle.tcp_laws.specs.Acts.Start.{active}
 use Rattle.tcp_laws.proofs.Tests.{by_test}
-use Rattle.tcp_streams.specs.Net.{MayAct}
+use Rattle.tcp_streams.specs.Exchange.{MayAct}
 use Rattle.host_wants.specs.Wanted.{Wanted, sends}
 use Rattle.host_sockets.specs.TcpSocket.{TcpSocket, with_tcb}
 use Rattle.host_sockets.specs.TcpActs.{Acted, unacted, is_let_go, starts, turned, turned_in, record_acts}
 use Rattle.host_sockets.specs.Records.{own_record, kept_records, records_at}
-use Rattle.socket_streams.specs.Records.{packets_of, net_with}
+use Rattle.socket_streams.specs.Records.{packets_of, exchange_with}
 use Rattle.socket_streams.specs.Inside.{IsInside}
 use Rattle.socket_streams.specs.Leads.{Leads}
 use Rattle.socket_streams.specs.May.{IsPlain}
@@ -31,30 +31,30 @@ use Rattle.socket_streams.proofs.Wants.{starts_flown}
 abbrev pub TurnLeads : (Addr → Addr → Bool) → Ip → List Packet → Tcb → Turn → Type 0
 TurnLeads scope own flying r t =
     (rest : List Tcb) (after : List Packet) → Flown flying t.sent after
-    → Leads scope own (net_with (r ∷ rest) flying) (net_with (t.tcb ∷ rest) after)
+    → Leads scope own (exchange_with (r ∷ rest) flying) (exchange_with (t.tcb ∷ rest) after)
 
 pub act_leads : (scope : Addr → Addr → Bool) (own : Ip) (flying : List Packet) (r : Tcb) (act : Act) → MayAct flying r act → TurnLeads scope own flying r (acted act r)
 act_leads scope own flying r act may rest after flown =
-    acts_among scope own (net_with (r ∷ rest) flying) (net_with ((acted act r).tcb ∷ rest) after) r rest act (IsPermutation-refl (r ∷ rest)) may (IsPermutation-refl ((acted act r).tcb ∷ rest)) flown
+    acts_among scope own (exchange_with (r ∷ rest) flying) (exchange_with ((acted act r).tcb ∷ rest) after) r rest act (IsPermutation-refl (r ∷ rest)) may (IsPermutation-refl ((acted act r).tcb ∷ rest)) flown
 
 -- one behind another that sends nothing
 pub second_leads : (scope : Addr → Addr → Bool) (own : Ip) (flying : List Packet) (r : Tcb) (first second : Act) → MayAct flying r first → (acted first r).sent ≡ [] → MayAct flying (acted first r).tcb second → TurnLeads scope own flying r (acted second (acted first r).tcb)
 second_leads scope own flying r first second may quiet may_then rest after flown =
     let between = (acted first r).tcb in
-    both scope own (net_with (r ∷ rest) flying) (net_with (between ∷ rest) flying) (net_with ((acted second between).tcb ∷ rest) after)
+    both scope own (exchange_with (r ∷ rest) flying) (exchange_with (between ∷ rest) flying) (exchange_with ((acted second between).tcb ∷ rest) after)
     (act_leads scope own flying r first may rest flying (λ p c. inl c))
     (act_leads scope own flying between second may_then rest after flown)
 
 -- what an act on a socket does to the records and the packets
 pub record Does (scope : Addr → Addr → Bool) (own : Ip) (flying : List Packet) (s : TcpSocket) (w : Wanted) (a : Acted) : Type 0 where
   pub plain : IsPlain own a.socket
-  pub leads : (others : List Tcb) → Leads scope own (net_with (records_at s ++ others) (flying ++ packets_of w)) (net_with ((records_at a.socket ++ a.gone) ++ others) (flying ++ packets_of a.wanted))
+  pub leads : (others : List Tcb) → Leads scope own (exchange_with (records_at s ++ others) (flying ++ packets_of w)) (exchange_with ((records_at a.socket ++ a.gone) ++ others) (flying ++ packets_of a.wanted))
 
 pub rests_does : (scope : Addr → Addr → Bool) (own : Ip) (flying : List Packet) (s : TcpSocket) (w : Wanted) → IsPlain own s → Does scope own flying s w (unacted s w)
 rests_does scope own flying s w plain = record {
   plain = record { listens = plain.listens; here = plain.here };
   leads = λ others.
-      goes scope own (net_with (records_at s ++ others) (flying ++ packets_of w)) (net_with ((records_at s ++ []) ++ others) (flying ++ packets_of w))
+      goes scope own (exchange_with (records_at s ++ others) (flying ++ packets_of w)) (exchange_with ((records_at s ++ []) ++ others) (flying ++ packets_of w))
       (same_permutation ((records_at s ++ []) ++ others) (records_at s ++ others) (ap (λ (xs : List Tcb). xs ++ others) (append-nil (records_at s))))
       (λ p c. inl c);
 }
@@ -109,8 +109,8 @@ turned_does scope own flying now k r t s w e none plain leads =
     record {
       plain = turned_plain own now k t s w none plain;
       leads = λ others.
-          subst (λ (xs : List Tcb). Leads scope own (net_with (xs ++ others) before) (net_with ((records_at a.socket ++ a.gone) ++ others) after)) (sym (alone s (Some r) e none))
-          (subst (λ (xs : List Tcb). Leads scope own (net_with (r ∷ others) before) (net_with (xs ++ others) after)) (sym (turned_records now k t s w none))
+          subst (λ (xs : List Tcb). Leads scope own (exchange_with (xs ++ others) before) (exchange_with ((records_at a.socket ++ a.gone) ++ others) after)) (sym (alone s (Some r) e none))
+          (subst (λ (xs : List Tcb). Leads scope own (exchange_with (r ∷ others) before) (exchange_with (xs ++ others) after)) (sym (turned_records now k t s w none))
           (leads others after (turned_flown flying now k t s w)));
     }
 
@@ -137,7 +137,7 @@ opens_does scope own flying now k local to iss s w first e none inside plain =
     record {
       plain = turned_plain own now k t s w none plain;
       leads = λ others.
-          subst (λ (xs : List Tcb). Leads scope own (net_with (xs ++ others) before) (net_with ((records_at a.socket ++ a.gone) ++ others) after)) (sym (alone s None e none))
-          (subst (λ (xs : List Tcb). Leads scope own (net_with others before) (net_with (xs ++ others) after)) (sym (turned_records now k t s w none))
-          (begins_among scope own (net_with others before) (net_with (t.tcb ∷ others) after) (active local to iss) first tt inside (IsPermutation-refl (t.tcb ∷ others)) (turned_flown flying now k t s w)));
+          subst (λ (xs : List Tcb). Leads scope own (exchange_with (xs ++ others) before) (exchange_with ((records_at a.socket ++ a.gone) ++ others) after)) (sym (alone s None e none))
+          (subst (λ (xs : List Tcb). Leads scope own (exchange_with others before) (exchange_with (xs ++ others) after)) (sym (turned_records now k t s w none))
+          (begins_among scope own (exchange_with others before) (exchange_with (t.tcb ∷ others) after) (active local to iss) first tt inside (IsPermutation-refl (t.tcb ∷ others)) (turned_flown flying now k t s w)));
     }

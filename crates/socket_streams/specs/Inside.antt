@@ -5,7 +5,7 @@ use Rattle.sim_base.specs.declared.address.Ip.{Ip}
 use Rattle.sim_base.specs.declared.address.Addr.{Addr}
 use Rattle.sim_base.specs.declared.packet.Packet.{Packet}
 use Rattle.sock_tcp.specs.connection.Tcb.{Tcb}
-use Rattle.tcp_streams.specs.Net.{Net, IsVoid}
+use Rattle.tcp_streams.specs.Exchange.{Exchange, IsVoid}
 use Rattle.tcp_streams.specs.Sound.{IsSound}
 
 -- an address of the host: 127.0.0.1, or its own
@@ -17,9 +17,9 @@ pub record IsInside (own : Ip) (a b : Addr) : Type 0 where
   pub from : is_same_ip a.ip loopback ≡ true → IsHome own b.ip
   pub to : is_same_ip b.ip loopback ≡ true → IsHome own a.ip
 
--- so are all records of a net, which are sound, and all packets but those that tell nothing of a stream, where the host's own
+-- so are all records of an exchange, which are sound, and all packets but those that tell nothing of a stream, where the host's own
 -- address isn't 127.0.0.1
-pub record StaysInside (own : Ip) (n : Net) : Type 0 where
+pub record StaysInside (own : Ip) (n : Exchange) : Type 0 where
   pub outside : is_same_ip own loopback ≡ false
   pub sound : (r : Tcb) → Contains n.records r → IsSound r
   pub ends : (r : Tcb) → Contains n.records r → IsInside own r.control.local r.control.peer

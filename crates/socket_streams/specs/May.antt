@@ -11,7 +11,7 @@ use Rattle.host_wants.specs.Wanted.{Wanted}
 use Rattle.host_sockets.specs.TcpSocket.{TcpSocket}
 use Rattle.host_sockets.specs.Sockets.{SocketsRecord}
 use Rattle.host_sockets.specs.Udp.{sends_udp}
-use Rattle.tcp_streams.specs.Net.{IsVoid}
+use Rattle.tcp_streams.specs.Exchange.{IsVoid}
 use Rattle.socket_laws.specs.Histories.{SocketsAct, sockets_acted, sockets_after}
 use Rattle.socket_laws.specs.Histories.SocketsAct.{make_udp, bind_udp, connect_udp, send_udp, recv_udp, close_udp, make_tcp, bind_tcp, listen_tcp, accept_tcp, connect_tcp, connect_again, send_tcp, recv_tcp, shut_tcp, take_error, close_tcp, arrival, alarm, elsewhere}
 use Rattle.socket_streams.specs.Records.{packets_of}

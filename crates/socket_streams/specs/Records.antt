@@ -1,4 +1,4 @@
--- the net of a host's sockets: all records that they have and ever let go, and the packets that are wanted
+-- the exchange of a host's sockets: all records that they have and ever let go, and the packets that are wanted
 use Rattle.std.specs.Prelude.{List, ◌++◌, filter_map, Option, Some, None}
 use Rattle.sim_base.specs.declared.packet.Packet.{Packet}
 use Rattle.sock_tcp.specs.connection.Tcb.{Tcb}
@@ -7,7 +7,7 @@ use Rattle.host_wants.specs.declared.outlet.Want.TheVariants.{Send, Alarm}
 use Rattle.host_wants.specs.Wanted.{Wanted}
 use Rattle.host_sockets.specs.Sockets.{SocketsRecord}
 use Rattle.host_sockets.specs.Records.{records_of}
-use Rattle.tcp_streams.specs.Net.{Net}
+use Rattle.tcp_streams.specs.Exchange.{Exchange}
 
 -- a packet that is wanted is on its way
 abbrev pub packet_in : Want → Option Packet
@@ -17,9 +17,9 @@ packet_in (Alarm target serial due) = None
 abbrev pub packets_of : Wanted → List Packet
 packets_of w = filter_map packet_in w.wants
 
-abbrev pub net_with : List Tcb → List Packet → Net
-net_with records flying = record { records = records; flying = flying }
+abbrev pub exchange_with : List Tcb → List Packet → Exchange
+exchange_with records flying = record { records = records; flying = flying }
 
 -- beside the records of others, and packets that are on their way already
-abbrev pub net_of : List Tcb → List Packet → SocketsRecord × Wanted → Net
-net_of others flying (t, w) = net_with (records_of t ++ others) (flying ++ packets_of w)
+abbrev pub exchange_of : List Tcb → List Packet → SocketsRecord × Wanted → Exchange
+exchange_of others flying (t, w) = exchange_with (records_of t ++ others) (flying ++ packets_of w)

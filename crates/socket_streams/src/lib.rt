@@ -1,4 +1,4 @@
-//! The sockets of a host as a net of connections: each act of them is a step. Definitions and laws, and
+//! The sockets of a host as an exchange of connections: each act of them is a step. Definitions and laws, and
 //! no code that runs.
 #![tactic(auto)]
 
@@ -12,21 +12,21 @@ ghost use Rattle.host_sockets.specs.Records.{records_of};
 ghost use Rattle.host_sockets.specs.Sockets.{SocketsRecord, no_sockets};
 ghost use Rattle.host_wants.specs.Wanted.{Wanted};
 ghost use Rattle.socket_laws.specs.Histories.{SocketsAct, sockets_acted, sockets_of};
-ghost use Rattle.socket_streams.specs.Records.{packets_of, net_of};
+ghost use Rattle.socket_streams.specs.Records.{packets_of, exchange_of};
 ghost use Rattle.socket_streams.specs.Home.{AllComeHome, AreAtHome};
 ghost use Rattle.socket_streams.specs.Leads.{Leads};
 ghost use Rattle.socket_streams.specs.May.{MayDo, MovesFreely, ArePlain};
 
-/// Each act of a host's sockets, and each list of them, leads from net to net, beside whatever other
+/// Each act of a host's sockets, and each list of them, leads from exchange to exchange, beside whatever other
 /// records there are, and leaves the sockets plain.
 pub fn sockets_lead()
     ensures one { (scope : Addr → Addr → Bool) (hosts : List Ip) (own : Ip) (now : Time) (act : SocketsAct) (t : SocketsRecord) (w : Wanted) (others : List Tcb) (flying : List Packet)
         → ArePlain own t → MayDo (flying ++ packets_of w) (flying ++ packets_of w) act
-        → Leads scope own (net_of others flying (t, w)) (net_of others flying (sockets_acted hosts now act t w))
+        → Leads scope own (exchange_of others flying (t, w)) (exchange_of others flying (sockets_acted hosts now act t w))
         × ArePlain own (sockets_acted hosts now act t w).0 }
     ensures all { (scope : Addr → Addr → Bool) (hosts : List Ip) (own : Ip) (x y : SocketsRecord × Wanted) (others : List Tcb) (flying : List Packet)
         → ArePlain own x.0 → MovesFreely hosts flying x y
-        → Leads scope own (net_of others flying x) (net_of others flying y) × ArePlain own y.0 }
+        → Leads scope own (exchange_of others flying x) (exchange_of others flying y) × ArePlain own y.0 }
     ensures none { (own : Ip) → ArePlain own (no_sockets own) }
 {}
 

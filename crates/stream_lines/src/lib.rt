@@ -15,7 +15,7 @@ ghost use Rattle.run_plan.specs.Planned.{planned};
 ghost use Rattle.run_plan.specs.declared.planned.Planned.TheVariants.{Runs};
 ghost use Rattle.run_plan.specs.declared.planned.Run.{Run};
 ghost use Rattle.socket_streams.specs.Home.{AreAtHome};
-ghost use Rattle.run_streams.specs.Nets.{host_records};
+ghost use Rattle.run_streams.specs.Exchanges.{host_records};
 ghost use Rattle.run_streams.specs.Run.{IsReached, AreHosts};
 ghost use Rattle.shadow_top.specs.Input.{Input, IsToRun};
 ghost use Rattle.plan_rows.specs.Rows.{rows_of, net_of};

@@ -18,7 +18,7 @@ use Rattle.sock_tcp.specs.connection.Segment.{sends_reset}
 use Rattle.sock_tcp.specs.connection.Congestion.{flight_of}
 use Rattle.sock_tcp.specs.connection.StandsFor.{FitsPhase}
 use Rattle.sock_tcp.specs.connection.Process.{bytes_read, reads}
-use Rattle.sock_tcp.specs.connection.Arrival.{fitting_text, keeps, discards, takes, receives_text, fin_is_due, fin_received, receives_fin, wants_ack, answers, waits_again, concludes, receives}
+use Rattle.sock_tcp.specs.connection.Arrival.{fitting_text, keeps, discards, text_comes, receives_text, fin_is_due, fin_received, receives_fin, wants_ack, answers, waits_again, concludes, receives}
 use Rattle.tcp_laws.specs.Received.{Counted, FitsTaken}
 use Rattle.sock_tcp.proofs.Segments.States.{phase_of_after_peer_fin}
 use Rattle.tcp_laws.proofs.Tests.{by_test}
@@ -109,8 +109,8 @@ holds_discards f r0 count t s e h =
       buffered = h.buffered;
     }
 
-holds_takes : (f : Kept) (r0 : Tcb) (bytes : List ℕ) (t : Turn) → takes_text t.tcb.control.state ≡ true → Holds f r0 t → Holds f r0 (takes bytes t)
-unfolding takes
+holds_takes : (f : Kept) (r0 : Tcb) (bytes : List ℕ) (t : Turn) → takes_text t.tcb.control.state ≡ true → Holds f r0 t → Holds f r0 (text_comes bytes t)
+unfolding text_comes
 holds_takes f r0 bytes t s h =
     by_test (Holds f r0) (length bytes == 0) _ _
     (λ e. h)

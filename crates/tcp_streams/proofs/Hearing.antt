@@ -18,7 +18,7 @@ use Rattle.sock_tcp.specs.connection.Ending.{vanished, ends, vanishes}
 use Rattle.sock_tcp.specs.connection.Timer.{judged}
 use Rattle.sock_tcp.specs.connection.Output.{output}
 use Rattle.sock_tcp.specs.connection.Congestion.{is_duplicate}
-use Rattle.sock_tcp.specs.connection.Arrival.{verdict, peer_known, establishes, own_fin_acknowledged, state_advanced, advances, notices, fitting_text, keeps, discards, takes, receives_text, fin_is_due, fin_received, receives_fin, wants_ack, concludes, unless_over, receives, connects, acts_on, takes_segment, takes_load, takes_packet}
+use Rattle.sock_tcp.specs.connection.Arrival.{verdict, peer_known, establishes, own_fin_acknowledged, state_advanced, advances, notices, fitting_text, keeps, discards, text_comes, receives_text, fin_is_due, fin_received, receives_fin, wants_ack, concludes, unless_over, receives, connects, acts_on, takes_segment, takes_load, takes_packet}
 use Rattle.tcp_laws.specs.Acts.{acted}
 use Rattle.tcp_laws.specs.Acts.Act.{arrival}
 use Rattle.tcp_laws.specs.Received.{IsCounted}
@@ -81,8 +81,8 @@ listened_discards w bytes t s l p =
 listened_as_is : (w : Tcb) (t : Turn) → Listening w t → Listened w t
 listened_as_is w t l = record { knows = l.knows; unclosed = l.unclosed }
 
-listened_takes : (w : Tcb) (bytes : List ℕ) (t : Turn) → takes_text t.tcb.control.state ≡ true → Listening w t → IsAt t.tcb.rcv bytes (stream w.written) → Listened w (takes bytes t)
-unfolding takes
+listened_takes : (w : Tcb) (bytes : List ℕ) (t : Turn) → takes_text t.tcb.control.state ≡ true → Listening w t → IsAt t.tcb.rcv bytes (stream w.written) → Listened w (text_comes bytes t)
+unfolding text_comes
 listened_takes w bytes t s l p =
     by_test (Listened w) (length bytes == 0) _ _
     (λ e. listened_as_is w t l)

@@ -10,7 +10,7 @@ pub mod Quiet
 pub mod Members
 pub mod Soundness
 pub mod Steps
-pub mod Nets
+pub mod Exchanges
 pub mod Promise
 pub mod Frames
 pub mod Voids

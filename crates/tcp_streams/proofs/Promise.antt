@@ -3,7 +3,7 @@ use Rattle.std.proofs.Common.{◌≡◌, ℕ, ⊎_elim, Bool, true, false, List,
 use Rattle.std.proofs.lemmas.List.{take_all}
 use Rattle.sim_base.specs.declared.address.Addr.{Addr}
 use Rattle.sock_tcp.specs.connection.Tcb.{Tcb}
-use Rattle.tcp_streams.specs.Net.{Net, empty_net, AreSteps, last_net}
+use Rattle.tcp_streams.specs.Exchange.{Exchange, empty_exchange, AreSteps, last_exchange}
 use Rattle.tcp_streams.specs.Sound.{IsSound}
 use Rattle.tcp_streams.specs.Heard.{IsFront, HearsFrom, IsHeard, AreHonest}
 use Rattle.tcp_streams.specs.Stream.{is_at, IsOnce, IsSimple, record_at, written_by, read_by, end_seen_by, stream_of, IsFaithful}
@@ -11,28 +11,28 @@ use Rattle.tcp_streams.proofs.Fronts.{empty_of, nothing_front, IsFront_take, who
 use Rattle.tcp_streams.proofs.Members.{IsIn_from_Contains, Contains_from_IsIn, found, missing, sole}
 use Rattle.tcp_streams.proofs.Ends.{ends_of, is_at_ends}
 use Rattle.tcp_streams.proofs.Steps.{AllSound}
-use Rattle.tcp_streams.proofs.Nets.{HeardAt, steps_sound, steps_honest, steps_heard}
+use Rattle.tcp_streams.proofs.Exchanges.{HeardAt, steps_sound, steps_honest, steps_heard}
 
--- the empty net
-empty_sound : AllSound empty_net.records
+-- the empty exchange
+empty_sound : AllSound empty_exchange.records
 empty_sound r c = absurd (IsIn_from_Contains r [] c)
 
-empty_honest : (scope : Addr → Addr → Bool) → AreHonest scope empty_net
+empty_honest : (scope : Addr → Addr → Bool) → AreHonest scope empty_exchange
 empty_honest scope p c = absurd (IsIn_from_Contains p [] c)
 
-empty_heard : (own other : Addr) → HeardAt own other empty_net.records
+empty_heard : (own other : Addr) → HeardAt own other empty_exchange.records
 empty_heard own other r c at = absurd (IsIn_from_Contains r [] c)
 
--- of every net
-pub net_sound : (scope : Addr → Addr → Bool) (nets : List Net) → AreSteps scope empty_net nets → AllSound (last_net empty_net nets).records
-net_sound scope nets steps = steps_sound scope empty_net nets steps empty_sound
+-- of every exchange
+pub exchange_sound : (scope : Addr → Addr → Bool) (exchanges : List Exchange) → AreSteps scope empty_exchange exchanges → AllSound (last_exchange empty_exchange exchanges).records
+exchange_sound scope exchanges steps = steps_sound scope empty_exchange exchanges steps empty_sound
 
-pub net_honest : (scope : Addr → Addr → Bool) (nets : List Net) → AreSteps scope empty_net nets → AreHonest scope (last_net empty_net nets)
-net_honest scope nets steps = steps_honest scope empty_net nets steps empty_sound (empty_honest scope)
+pub exchange_honest : (scope : Addr → Addr → Bool) (exchanges : List Exchange) → AreSteps scope empty_exchange exchanges → AreHonest scope (last_exchange empty_exchange exchanges)
+exchange_honest scope exchanges steps = steps_honest scope empty_exchange exchanges steps empty_sound (empty_honest scope)
 
-pub net_heard : (scope : Addr → Addr → Bool) (nets : List Net) (own other : Addr) → scope other own ≡ true → AreSteps scope empty_net nets → IsOnce other own (last_net empty_net nets).records → HeardAt own other (last_net empty_net nets).records
-net_heard scope nets own other in_scope steps once =
-    steps_heard scope own other empty_net nets in_scope steps empty_sound (empty_honest scope) (empty_heard own other) once
+pub exchange_heard : (scope : Addr → Addr → Bool) (exchanges : List Exchange) (own other : Addr) → scope other own ≡ true → AreSteps scope empty_exchange exchanges → IsOnce other own (last_exchange empty_exchange exchanges).records → HeardAt own other (last_exchange empty_exchange exchanges).records
+exchange_heard scope exchanges own other in_scope steps once =
+    steps_heard scope own other empty_exchange exchanges in_scope steps empty_sound (empty_honest scope) (empty_heard own other) once
 
 -- what a record that heard nothing gives, and one that heard of another
 take_none : (n : ℕ) (xs : List ℕ) → length xs ≡ 0 → take n xs ≡ []
@@ -104,7 +104,7 @@ faithful from to records (Some r) e once sound heard =
     let k = reads_of from to records r once (sound r c) f.1 (heard r c f.1) in
     record { front = k.front; whole = λ seen. k.whole (found_by_read r.control.saw_end r.control.had_error seen) }
 
-pub streams : (scope : Addr → Addr → Bool) (nets : List Net) (from to : Addr) → scope from to ≡ true → AreSteps scope empty_net nets → IsSimple from to (last_net empty_net nets).records → IsFaithful (stream_of from to (last_net empty_net nets).records)
-streams scope nets from to in_scope steps simple =
-    let records = (last_net empty_net nets).records in
-    faithful from to records (record_at to from records) refl simple.0 (net_sound scope nets steps) (net_heard scope nets to from in_scope steps simple.0)
+pub streams : (scope : Addr → Addr → Bool) (exchanges : List Exchange) (from to : Addr) → scope from to ≡ true → AreSteps scope empty_exchange exchanges → IsSimple from to (last_exchange empty_exchange exchanges).records → IsFaithful (stream_of from to (last_exchange empty_exchange exchanges).records)
+streams scope exchanges from to in_scope steps simple =
+    let records = (last_exchange empty_exchange exchanges).records in
+    faithful from to records (record_at to from records) refl simple.0 (exchange_sound scope exchanges steps) (exchange_heard scope exchanges to from in_scope steps simple.0)

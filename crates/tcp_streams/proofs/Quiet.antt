@@ -17,7 +17,7 @@ use Rattle.sock_tcp.specs.connection.Arrival.{verdict, acts_on, takes_segment, t
 use Rattle.sock_tcp.specs.connection.Process.{reads, ends_reading, shuts_end, shuts}
 use Rattle.tcp_laws.specs.Acts.{Act, acted}
 use Rattle.tcp_laws.specs.Acts.Act.{arrival, write, read, flow, shut, close, expiry, error_read}
-use Rattle.tcp_streams.specs.Net.{IsVoid}
+use Rattle.tcp_streams.specs.Exchange.{IsVoid}
 use Rattle.tcp_streams.proofs.Verdicts.{Says, verdict_says}
 use Rattle.tcp_streams.proofs.Ears.{Ear, ear, HearsAs, judged_ear, sends_ack_ear, sends_syn_ack_ear, sends_refusal_ear, ends_ear, vanishes_ear, writes_ear, flows_ear, ends_writing_ear, closes_ear, error_taken_ear, expires_ear}
 

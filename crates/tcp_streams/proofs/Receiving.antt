@@ -18,7 +18,7 @@ use Rattle.sock_tcp.specs.connection.Ending.{ends, vanishes}
 use Rattle.sock_tcp.specs.connection.Timer.{judged}
 use Rattle.sock_tcp.specs.connection.Output.{output}
 use Rattle.sock_tcp.specs.connection.Congestion.{is_duplicate}
-use Rattle.sock_tcp.specs.connection.Arrival.{verdict, peer_known, establishes, advances, notices, fitting_text, keeps, discards, takes, receives_text, fin_is_due, fin_received, receives_fin, wants_ack, concludes, unless_over, receives, connects, acts_on, takes_segment, takes_load, takes_packet}
+use Rattle.sock_tcp.specs.connection.Arrival.{verdict, peer_known, establishes, advances, notices, fitting_text, keeps, discards, text_comes, receives_text, fin_is_due, fin_received, receives_fin, wants_ack, concludes, unless_over, receives, connects, acts_on, takes_segment, takes_load, takes_packet}
 use Rattle.sock_tcp.specs.connection.Process.{writes, reads, flows, ends_reading, ends_writing, shuts_end, shuts, closes, error_taken, expires}
 use Rattle.tcp_laws.specs.Acts.{Act, acted}
 use Rattle.tcp_laws.specs.Acts.Act.{arrival, write, read, flow, shut, close, expiry, error_read}
@@ -74,8 +74,8 @@ goes_discards r count t h = record {
   seen_stays = h.seen_stays;
 }
 
-goes_takes : (r : Tcb) (bytes : List ℕ) (t : Turn) → Goes r t → Goes r (takes bytes t)
-unfolding takes
+goes_takes : (r : Tcb) (bytes : List ℕ) (t : Turn) → Goes r t → Goes r (text_comes bytes t)
+unfolding text_comes
 goes_takes r bytes t h =
     by_test (Goes r) (length bytes == 0) _ _
     (λ e. h)

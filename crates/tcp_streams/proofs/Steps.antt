@@ -1,4 +1,4 @@
--- what a step leaves of a net
+-- what a step leaves of an exchange
 use Rattle.std.proofs.Common.{◌≡◌, ℕ, ◌+◌, ◌≤◌, inl, inr, ⊎_elim, Bool, cond, ◌&&◌, List, [], ◌∷◌, length, Contains, sym, ap, subst, ◌∙◌, length-append, arith}
 use Rattle.std.specs.List.{count_by}
 use Rattle.std.specs.List.Sorted.{IsPermutation}
@@ -13,8 +13,8 @@ use Rattle.tcp_laws.specs.Growth.{GrowsTo}
 use Rattle.tcp_laws.specs.Sending.{LoadCarries, AreOf}
 use Rattle.tcp_laws.proofs.Holds.{Grows-refl}
 use Rattle.tcp_laws.proofs.Segments.{LoadCarries_grows}
-use Rattle.tcp_streams.specs.Net.{Net, Flies, MayAct, Follows, Step}
-use Rattle.tcp_streams.specs.Net.Step.{acts, begins, goes_on}
+use Rattle.tcp_streams.specs.Exchange.{Exchange, Flies, MayAct, Follows, Step}
+use Rattle.tcp_streams.specs.Exchange.Step.{acts, begins, goes_on}
 use Rattle.tcp_streams.specs.Sound.{IsSound}
 use Rattle.tcp_streams.specs.Heard.{SentBy, HasSender, AreHonest}
 use Rattle.tcp_streams.specs.Stream.{is_at, IsOnce}
@@ -34,7 +34,7 @@ abbrev pub AllSound : List Tcb → Type 0
 AllSound records = (r : Tcb) → Contains records r → IsSound r
 
 -- where a record comes from
-pub data Origin (m : Net) (r : Tcb) : Type 0 where
+pub data Origin (m : Exchange) (r : Tcb) : Type 0 where
   stays : Contains m.records r → Origin m r
   acted_by : (before : Tcb) (act : Act) → Contains m.records before → MayAct m.flying before act → r ≡ (acted act before).tcb → Origin m r
   begun_as : (start : Start) → IsStart start → Follows m.flying start → r ≡ (begun_by start).tcb → Origin m r
@@ -42,7 +42,7 @@ pub data Origin (m : Net) (r : Tcb) : Type 0 where
 pub moved : (xs ys : List Tcb) (r : Tcb) → IsPermutation xs ys → Contains ys r → Contains xs r
 moved xs ys r p c = Contains-permutation ys xs r (IsPermutation-sym xs ys p) c
 
-pub origin : (scope : Addr → Addr → Bool) (m n : Net) (r : Tcb) → Step scope m n → Contains n.records r → Origin m r
+pub origin : (scope : Addr → Addr → Bool) (m n : Exchange) (r : Tcb) → Step scope m n → Contains n.records r → Origin m r
 origin scope m n r (acts before rest act p may q flies) c =
     ⊎_elim
     (λ e. acted_by before act (moved m.records (before ∷ rest) before p (Contains_here before rest)) may e)
@@ -56,16 +56,16 @@ origin scope m n r (begins start b follows q flies) c =
 origin scope m n r (goes_on q flies) c = stays (Contains-permutation n.records m.records r q c)
 
 -- sound records
-origin_sound : (m : Net) (r : Tcb) → AllSound m.records → Origin m r → IsSound r
+origin_sound : (m : Exchange) (r : Tcb) → AllSound m.records → Origin m r → IsSound r
 origin_sound m r all (stays c) = all r c
 origin_sound m r all (acted_by before act c may e) = subst IsSound (sym e) (acted_sound act before (all before c))
 origin_sound m r all (begun_as start b follows e) = subst IsSound (sym e) (begun_sound start b)
 
-pub step_sound : (scope : Addr → Addr → Bool) (m n : Net) → Step scope m n → AllSound m.records → AllSound n.records
+pub step_sound : (scope : Addr → Addr → Bool) (m n : Exchange) → Step scope m n → AllSound m.records → AllSound n.records
 step_sound scope m n step all r c = origin_sound m r all (origin scope m n r step c)
 
 -- grown records
-pub step_evolves : (scope : Addr → Addr → Bool) (m n : Net) → Step scope m n → AllSound m.records → Evolves m.records n.records
+pub step_evolves : (scope : Addr → Addr → Bool) (m n : Exchange) → Step scope m n → AllSound m.records → Evolves m.records n.records
 step_evolves scope m n (acts before rest act p may q flies) all r c =
     ⊎_elim
     (λ e.
@@ -108,7 +108,7 @@ still_sent before after p evolves s =
     record { sender = w.after; among = w.among; sent = sent_grows s.sender w.after p w.grows s.sent }
 
 -- what flew before, what was sent now, and what came
-flown : (scope : Addr → Addr → Bool) (m n : Net) (sent : List Packet) (r : Tcb) → Contains n.records r → AreOf r sent → Evolves m.records n.records → Flies scope m.flying sent n.flying → AreHonest scope m → AreHonest scope n
+flown : (scope : Addr → Addr → Bool) (m n : Exchange) (sent : List Packet) (r : Tcb) → Contains n.records r → AreOf r sent → Evolves m.records n.records → Flies scope m.flying sent n.flying → AreHonest scope m → AreHonest scope n
 flown scope m n sent r among of evolves flies honest p c =
     ⊎_elim
     (λ before. ⊎_elim (λ k. inl k) (λ s. inr (still_sent m.records n.records p evolves s)) (honest p before))
@@ -119,14 +119,14 @@ flown scope m n sent r among of evolves flies honest p c =
     new)
     (flies p c)
 
-came : (scope : Addr → Addr → Bool) (m n : Net) → Evolves m.records n.records → Flies scope m.flying [] n.flying → AreHonest scope m → AreHonest scope n
+came : (scope : Addr → Addr → Bool) (m n : Exchange) → Evolves m.records n.records → Flies scope m.flying [] n.flying → AreHonest scope m → AreHonest scope n
 came scope m n evolves flies honest p c =
     ⊎_elim
     (λ before. ⊎_elim (λ k. inl k) (λ s. inr (still_sent m.records n.records p evolves s)) (honest p before))
     (λ new. ⊎_elim (λ none. absurd (IsIn_from_Contains p [] none)) (λ k. inl k) new)
     (flies p c)
 
-pub step_honest : (scope : Addr → Addr → Bool) (m n : Net) → Step scope m n → AllSound m.records → AreHonest scope m → AreHonest scope n
+pub step_honest : (scope : Addr → Addr → Bool) (m n : Exchange) → Step scope m n → AllSound m.records → AreHonest scope m → AreHonest scope n
 step_honest scope m n (acts before rest act p may q flies) all honest =
     let after = (acted act before).tcb in
     let sound = all before (moved m.records (before ∷ rest) before p (Contains_here before rest)) in
@@ -155,7 +155,7 @@ count-cons test x xs = sum_by-cons (λ (y : Tcb). cond (test y) 1 0) x xs
 count_permutation : (test : Tcb → Bool) (xs ys : List Tcb) → IsPermutation xs ys → count_by test ys ≡ count_by test xs
 count_permutation test xs ys p = sum_by-IsPermutation (λ (y : Tcb). cond (test y) 1 0) xs ys p
 
-pub step_counts : (scope : Addr → Addr → Bool) (m n : Net) (own other : Addr) → Step scope m n → AllSound m.records → count_by (is_at own other) m.records ≤ count_by (is_at own other) n.records
+pub step_counts : (scope : Addr → Addr → Bool) (m n : Exchange) (own other : Addr) → Step scope m n → AllSound m.records → count_by (is_at own other) m.records ≤ count_by (is_at own other) n.records
 step_counts scope m n own other (acts before rest act p may q flies) all =
     let test = is_at own other in
     let after = (acted act before).tcb in

@@ -14,13 +14,13 @@ use Rattle.sock_tcp.specs.connection.Segment.{with_ack, sends_ack}
 use Rattle.sock_tcp.specs.connection.Timer.{needs_timer, judged, restarted, restarts}
 use Rattle.sock_tcp.specs.connection.Output.{pieces, sends_text, sends_fin, follows, output}
 use Rattle.sock_tcp.specs.connection.Congestion.{is_duplicate}
-use Rattle.sock_tcp.specs.connection.Arrival.{peer_known, established, establishes, advanced, advances, hears_duplicate, notices, fitting_text, keeps, takes, receives_text, fin_received, receives_fin, wants_ack, answers, waits_again, unless_over, concludes, receives, connects, takes_segment, takes_packet}
+use Rattle.sock_tcp.specs.connection.Arrival.{peer_known, established, establishes, advanced, advances, hears_duplicate, notices, fitting_text, keeps, text_comes, receives_text, fin_received, receives_fin, wants_ack, answers, waits_again, unless_over, concludes, receives, connects, takes_segment, takes_packet}
 use Rattle.sock_tcp.specs.connection.Process.{fresh_tcb, opened, answered, bytes_taken, writes, reads, pays_ack, flows, ends_writing, shuts}
 use Rattle.tcp_laws.specs.Acts.{begun_by, acted}
 use Rattle.tcp_laws.specs.Acts.Start.{active, passive}
 use Rattle.tcp_laws.specs.Acts.Act.{arrival, write, read, flow, shut}
-use Rattle.tcp_streams.specs.Net.{Net, empty_net, Flies, AreSteps, last_net}
-use Rattle.tcp_streams.specs.Net.Step.{acts, begins}
+use Rattle.tcp_streams.specs.Exchange.{Exchange, empty_exchange, Flies, AreSteps, last_exchange}
+use Rattle.tcp_streams.specs.Exchange.Step.{acts, begins}
 use Rattle.tcp_streams.specs.Frame.{everywhere}
 use Rattle.tcp_streams.specs.Stream.{stream_of}
 use Rattle.tcp_streams.proofs.Members.{Contains_here, IsIn_from_Contains}
@@ -100,7 +100,7 @@ unfolding opened fresh_tcb fresh_control without_ack with_ack wire takes_packet 
 connected_sends = refl
 
 accepted_sends : accepted.sent ≡ []
-unfolding answered fresh_tcb fresh_control with_ack wire distance takes_packet takes_segment verdict_of synchronized_verdict establishes established judged needs_timer restarts restarted receives unless_over concludes receives_text fitting_text takes receives_fin wants_ack answers waits_again output follows sends_text sends_fin pieces
+unfolding answered fresh_tcb fresh_control with_ack wire distance takes_packet takes_segment verdict_of synchronized_verdict establishes established judged needs_timer restarts restarted receives unless_over concludes receives_text fitting_text text_comes receives_fin wants_ack answers waits_again output follows sends_text sends_fin pieces
 accepted_sends = refl
 
 sending_sends : sending.sent ≡ text ∷ []
@@ -111,23 +111,23 @@ ending_sends : ending.sent ≡ fin ∷ []
 unfolding opened fresh_tcb fresh_control without_ack with_ack wire takes_packet takes_segment verdict_of syn_sent_verdict connects peer_known establishes established judged needs_timer restarts restarted sends_ack output follows sends_text sends_fin pieces writes bytes_taken flows unless_over pays_ack shuts ends_writing writing_ended
 ending_sends = refl
 
--- each net, with the packets that are still on their way
-abbrev net : Tcb → Tcb → List Packet → Net
-net r s packets = record { records = r ∷ s ∷ []; flying = packets }
+-- each exchange, with the packets that are still on their way
+abbrev exchange : Tcb → Tcb → List Packet → Exchange
+exchange r s packets = record { records = r ∷ s ∷ []; flying = packets }
 
-abbrev nets : List Net
-nets =
+abbrev exchanges : List Exchange
+exchanges =
     record { records = opens.tcb ∷ []; flying = opens.sent }
-    ∷ net answering.tcb opens.tcb answering.sent
-    ∷ net connected.tcb answering.tcb connected.sent
-    ∷ net accepted.tcb connected.tcb []
-    ∷ net written.tcb accepted.tcb []
-    ∷ net sending.tcb accepted.tcb sending.sent
-    ∷ net received.tcb sending.tcb []
-    ∷ net first_read.tcb sending.tcb []
-    ∷ net ending.tcb first_read.tcb ending.sent
-    ∷ net ended.tcb ending.tcb []
-    ∷ net last_read.tcb ending.tcb []
+    ∷ exchange answering.tcb opens.tcb answering.sent
+    ∷ exchange connected.tcb answering.tcb connected.sent
+    ∷ exchange accepted.tcb connected.tcb []
+    ∷ exchange written.tcb accepted.tcb []
+    ∷ exchange sending.tcb accepted.tcb sending.sent
+    ∷ exchange received.tcb sending.tcb []
+    ∷ exchange first_read.tcb sending.tcb []
+    ∷ exchange ending.tcb first_read.tcb ending.sent
+    ∷ exchange ended.tcb ending.tcb []
+    ∷ exchange last_read.tcb ending.tcb []
     ∷ []
 
 -- what was sent is on its way, or nothing is
@@ -148,14 +148,14 @@ turned r s = IsPermutation-middle (r ∷ []) s []
 
 -- the server's ends stay
 ends_accepted : (server ≡ accepted.tcb.control.local) × (client ≡ accepted.tcb.control.peer)
-unfolding answered fresh_tcb fresh_control with_ack wire distance takes_packet takes_segment verdict_of synchronized_verdict establishes established advanced advances is_duplicate hears_duplicate notices judged needs_timer restarts restarted receives unless_over concludes receives_text fitting_text keeps takes receives_fin wants_ack answers waits_again sends_ack output follows sends_text sends_fin pieces
+unfolding answered fresh_tcb fresh_control with_ack wire distance takes_packet takes_segment verdict_of synchronized_verdict establishes established advanced advances is_duplicate hears_duplicate notices judged needs_timer restarts restarted receives unless_over concludes receives_text fitting_text keeps text_comes receives_fin wants_ack answers waits_again sends_ack output follows sends_text sends_fin pieces
 ends_accepted = (refl, refl)
 
 ends_read : (server ≡ first_read.tcb.control.local) × (client ≡ first_read.tcb.control.peer)
-unfolding answered fresh_tcb fresh_control with_ack wire distance takes_packet takes_segment verdict_of synchronized_verdict establishes established advanced advances is_duplicate hears_duplicate notices judged needs_timer restarts restarted receives unless_over concludes receives_text fitting_text keeps takes receives_fin wants_ack answers waits_again sends_ack output follows sends_text sends_fin pieces reads
+unfolding answered fresh_tcb fresh_control with_ack wire distance takes_packet takes_segment verdict_of synchronized_verdict establishes established advanced advances is_duplicate hears_duplicate notices judged needs_timer restarts restarted receives unless_over concludes receives_text fitting_text keeps text_comes receives_fin wants_ack answers waits_again sends_ack output follows sends_text sends_fin pieces reads
 ends_read = (refl, refl)
 
-steps : AreSteps everywhere empty_net nets
+steps : AreSteps everywhere empty_exchange exchanges
 unfolding opened answered fresh_tcb fresh_control
 steps = (
   begins (active client server 100) (omega arith) tt (IsPermutation-refl (opens.tcb ∷ [])) (now [] opens.sent),
@@ -199,6 +199,6 @@ steps = (
 )
 
 -- the server has read the byte and seen the end
-stream : stream_of client server (last_net empty_net nets).records ≡ record { written = 120 ∷ []; read = 120 ∷ []; ended = true }
-unfolding opened answered fresh_tcb fresh_control without_ack with_ack wire distance takes_packet takes_segment verdict_of syn_sent_verdict synchronized_verdict connects peer_known establishes established advanced advances is_duplicate hears_duplicate notices judged needs_timer restarts restarted receives unless_over concludes receives_text fitting_text keeps takes fin_received receives_fin wants_ack answers waits_again sends_ack output follows sends_text sends_fin pieces writes bytes_taken reads flows pays_ack shuts ends_writing writing_ended
+stream : stream_of client server (last_exchange empty_exchange exchanges).records ≡ record { written = 120 ∷ []; read = 120 ∷ []; ended = true }
+unfolding opened answered fresh_tcb fresh_control without_ack with_ack wire distance takes_packet takes_segment verdict_of syn_sent_verdict synchronized_verdict connects peer_known establishes established advanced advances is_duplicate hears_duplicate notices judged needs_timer restarts restarted receives unless_over concludes receives_text fitting_text keeps text_comes fin_received receives_fin wants_ack answers waits_again sends_ack output follows sends_text sends_fin pieces writes bytes_taken reads flows pays_ack shuts ends_writing writing_ended
 stream = refl

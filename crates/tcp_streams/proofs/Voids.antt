@@ -11,7 +11,7 @@ use Rattle.sock_tcp.specs.segment.Refusal.{header_refusal, load_refusal, refusal
 use Rattle.sock_tcp.specs.connection.Tcb.{Tcb}
 use Rattle.sock_tcp.specs.connection.Resets.{reset_of, resets_of}
 use Rattle.tcp_laws.proofs.Tests.{by_test}
-use Rattle.tcp_streams.specs.Net.{IsVoid}
+use Rattle.tcp_streams.specs.Exchange.{IsVoid}
 use Rattle.tcp_streams.proofs.Members.{IsIn, IsIn_from_Contains}
 
 -- RSTs tell nothing

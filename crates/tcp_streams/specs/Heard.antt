@@ -6,7 +6,7 @@ use Rattle.sock_tcp.specs.segment.Number.{wire}
 use Rattle.sock_tcp.specs.segment.Refusal.{one_if}
 use Rattle.sock_tcp.specs.connection.Tcb.{Tcb}
 use Rattle.tcp_laws.specs.Sending.{Sent}
-use Rattle.tcp_streams.specs.Net.{Net, Comes}
+use Rattle.tcp_streams.specs.Exchange.{Exchange, Comes}
 
 -- a list begins with another
 pub record IsFront (front whole : List ℕ) : Type 0 where
@@ -52,6 +52,6 @@ pub record HasSender (records : List Tcb) (p : Packet) : Type 0 where
   pub among : Contains records sender
   pub sent : SentBy sender p
 
-abbrev pub AreHonest : (Addr → Addr → Bool) → Net → Type 0
+abbrev pub AreHonest : (Addr → Addr → Bool) → Exchange → Type 0
 AreHonest scope n =
     (p : Packet) → Contains n.flying p → Comes scope p ⊎ HasSender n.records p

@@ -1,4 +1,4 @@
-pub mod Net
+pub mod Exchange
 pub mod Sound
 pub mod Heard
 pub mod Stream

@@ -13,7 +13,7 @@ ghost use Rattle.sock_tcp.specs.connection.Tcb.{Tcb};
 ghost use Rattle.tcp_laws.specs.Acts.{Start, IsStart, begun_by, Act, acted};
 ghost use Rattle.tcp_laws.specs.Growth.{GrowsTo};
 ghost use Rattle.tcp_laws.specs.Sending.{AreOf, Carries};
-ghost use Rattle.tcp_streams.specs.Net.{Net, empty_net, IsVoid, Comes, Flies, Step, AreSteps, last_net};
+ghost use Rattle.tcp_streams.specs.Exchange.{Exchange, empty_exchange, IsVoid, Comes, Flies, Step, AreSteps, last_exchange};
 ghost use Rattle.tcp_streams.specs.Sound.{IsSound, ReceivesOn};
 ghost use Rattle.tcp_streams.specs.Heard.{HearsFrom, IsHeard, AreHonest};
 ghost use Rattle.tcp_streams.specs.Frame.{everywhere, inside, IsPart, MovesOn};
@@ -48,29 +48,29 @@ pub fn records_grow()
     ensures received { (r : Tcb) (act : Act) → ReceivesOn r (acted act r).tcb }
 {}
 
-/// In every net each record is sound, and each packet on its way is honest or comes from elsewhere.
-pub fn nets_honest()
-    ensures records { (scope : Addr → Addr → Bool) (nets : List Net) → AreSteps scope empty_net nets
-        → (r : Tcb) → Contains (last_net empty_net nets).records r → IsSound r }
-    ensures packets { (scope : Addr → Addr → Bool) (nets : List Net) → AreSteps scope empty_net nets
-        → AreHonest scope (last_net empty_net nets) }
+/// In every exchange each record is sound, and each packet on its way is honest or comes from elsewhere.
+pub fn exchanges_honest()
+    ensures records { (scope : Addr → Addr → Bool) (exchanges : List Exchange) → AreSteps scope empty_exchange exchanges
+        → (r : Tcb) → Contains (last_exchange empty_exchange exchanges).records r → IsSound r }
+    ensures packets { (scope : Addr → Addr → Bool) (exchanges : List Exchange) → AreSteps scope empty_exchange exchanges
+        → AreHonest scope (last_exchange empty_exchange exchanges) }
 {}
 
-/// In every net a record has heard nothing, or of the record at the other end, where that end had one
+/// In every exchange a record has heard nothing, or of the record at the other end, where that end had one
 /// record at most, to which fewer than 2^30 bytes were written.
 pub fn peers_heard()
-    ensures { (scope : Addr → Addr → Bool) (nets : List Net) (own other : Addr) → AreSteps scope empty_net nets
-        → scope other own ≡ true → IsOnce other own (last_net empty_net nets).records
-        → (r : Tcb) → Contains (last_net empty_net nets).records r → is_at own other r ≡ true
-        → IsHeard (last_net empty_net nets).records r }
+    ensures { (scope : Addr → Addr → Bool) (exchanges : List Exchange) (own other : Addr) → AreSteps scope empty_exchange exchanges
+        → scope other own ≡ true → IsOnce other own (last_exchange empty_exchange exchanges).records
+        → (r : Tcb) → Contains (last_exchange empty_exchange exchanges).records r → is_at own other r ≡ true
+        → IsHeard (last_exchange empty_exchange exchanges).records r }
 {}
 
-/// In every net what was read at one end is a front of what was written at the other, and all of it where
+/// In every exchange what was read at one end is a front of what was written at the other, and all of it where
 /// the reader saw the end, for ends that had one record each at most, with fewer than 2^30 bytes each way.
 pub fn streams()
-    ensures { (scope : Addr → Addr → Bool) (nets : List Net) (from to : Addr) → AreSteps scope empty_net nets
-        → scope from to ≡ true → IsSimple from to (last_net empty_net nets).records
-        → IsFaithful (stream_of from to (last_net empty_net nets).records) }
+    ensures { (scope : Addr → Addr → Bool) (exchanges : List Exchange) (from to : Addr) → AreSteps scope empty_exchange exchanges
+        → scope from to ≡ true → IsSimple from to (last_exchange empty_exchange exchanges).records
+        → IsFaithful (stream_of from to (last_exchange empty_exchange exchanges).records) }
 {}
 
 /// What answers a segment of no connection tells nothing of a stream, nor do the resets that a listener
@@ -80,21 +80,21 @@ pub fn refusals_void()
     ensures resets { (records : List Tcb) (p : Packet) → Contains (resets_of records) p → IsVoid p.load }
 {}
 
-/// Steps of a part of a net, as of one host among others, are steps of the whole; lists of steps join; what
-/// others do is a step of the part too, where their packets come; in a net of the ends of 127.0.0.1 packets
-/// without that address do; and steps of a net of every two ends are steps of a net of fewer.
+/// Steps of a part of an exchange, as of one host among others, are steps of the whole; lists of steps join; what
+/// others do is a step of the part too, where their packets come; in an exchange of the ends of 127.0.0.1 packets
+/// without that address do; and steps of an exchange of every two ends are steps of an exchange of fewer.
 pub fn parts_step()
-    ensures part { (scope : Addr → Addr → Bool) (part : Net) (nets : List Net) (others : List Tcb) (before after : Net)
-        → IsPart part others before → AreSteps scope part nets → MovesOn scope (last_net part nets) others before after
-        → (more : List Net) × AreSteps scope before more × (last_net before more ≡ after) }
-    ensures joined { (scope : Addr → Addr → Bool) (m : Net) (nets more : List Net)
-        → AreSteps scope m nets → AreSteps scope (last_net m nets) more
-        → AreSteps scope m (nets ++ more) × (last_net m (nets ++ more) ≡ last_net (last_net m nets) more) }
-    ensures others { (scope : Addr → Addr → Bool) (part : Net) (flying : List Packet)
+    ensures part { (scope : Addr → Addr → Bool) (part : Exchange) (exchanges : List Exchange) (others : List Tcb) (before after : Exchange)
+        → IsPart part others before → AreSteps scope part exchanges → MovesOn scope (last_exchange part exchanges) others before after
+        → (more : List Exchange) × AreSteps scope before more × (last_exchange before more ≡ after) }
+    ensures joined { (scope : Addr → Addr → Bool) (m : Exchange) (exchanges more : List Exchange)
+        → AreSteps scope m exchanges → AreSteps scope (last_exchange m exchanges) more
+        → AreSteps scope m (exchanges ++ more) × (last_exchange m (exchanges ++ more) ≡ last_exchange (last_exchange m exchanges) more) }
+    ensures others { (scope : Addr → Addr → Bool) (part : Exchange) (flying : List Packet)
         → ((p : Packet) → Contains flying p → Contains part.flying p ⊎ Comes scope p)
         → Step scope part (record { records = part.records; flying = flying }) }
     ensures outside { (p : Packet) → is_same_ip p.from.ip loopback ≡ false → is_same_ip p.to.ip loopback ≡ false
         → Comes inside p }
-    ensures narrowed { (scope : Addr → Addr → Bool) (m : Net) (nets : List Net)
-        → AreSteps everywhere m nets → AreSteps scope m nets }
+    ensures narrowed { (scope : Addr → Addr → Bool) (m : Exchange) (exchanges : List Exchange)
+        → AreSteps everywhere m exchanges → AreSteps scope m exchanges }
 {}

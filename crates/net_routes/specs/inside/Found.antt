@@ -4,34 +4,34 @@ use Rattle.net_routes.specs.declared.cost.Cost.{Cost}
 use Rattle.net_routes.specs.declared.error.RouteError.{RouteError}
 use Rattle.net_routes.specs.declared.error.RouteError.TheVariants as errors
 use Rattle.net_routes.specs.declared.finding.Search.{Search}
-use Rattle.net_routes.specs.declared.net.Net.{Net}
+use Rattle.net_routes.specs.declared.adjacency.Adjacency.{Adjacency}
 use Rattle.net_routes.specs.declared.hop.Hop.{Hop}
 use Rattle.net_routes.specs.Walk.{Goes}
 use Rattle.net_routes.specs.inside.Path.{AreArcs, IsBest}
 use Rattle.net_routes.specs.Needed.{IsAt}
-use Rattle.net_routes.specs.inside.Net.{IsNet}
+use Rattle.net_routes.specs.inside.Adjacency.{IsAdjacency}
 use Rattle.net_routes.specs.inside.RouteRows.{IsRouteRow, NamesLack}
 
--- the most places of a net; nodes are fewer
+-- the most places of a adjacency; nodes are fewer
 abbrev pub most_places : ℕ
 most_places = 2 ^ 20
 
 -- arcs between places
-pub record IsReady (net : Net) : Type 0 where
-  pub arcs : AreArcs net.rows.items
-  pub few : length net.rows.items ≤ most_places
-  pub size : length net.rows.items ≡ length net.places
+pub record IsReady (adjacency : Adjacency) : Type 0 where
+  pub arcs : AreArcs adjacency.rows.items
+  pub few : length adjacency.rows.items ≤ most_places
+  pub size : length adjacency.rows.items ≡ length adjacency.places
 
 -- the best costs of walks from a node, and the costs that hosts need of them, or the first that isn't there
-pub record IsRowOrLack (net : Net) (nodes stops : List ℕ) (shortest : Bool) (from : ℕ) (r : Result (List (Option Cost)) RouteError) : Type 0 where
+pub record IsRowOrLack (adjacency : Adjacency) (nodes stops : List ℕ) (shortest : Bool) (from : ℕ) (r : Result (List (Option Cost)) RouteError) : Type 0 where
   pub found : ℕ → Option Cost
-  pub best : (ss : List Hop) → IsNet ss net.places net.rows.items → IsBest (Goes ss shortest from) found
+  pub best : (ss : List Hop) → IsAdjacency ss adjacency.places adjacency.rows.items → IsBest (Goes ss shortest from) found
   pub ok : IfOk r (IsRouteRow nodes stops from found)
   pub err : IfErr r (NamesLack nodes stops from found)
 
 -- memory ran out, or that
-abbrev pub IsFound : Net → List ℕ → List ℕ → Bool → ℕ → Result (List (Option Cost)) RouteError → Type 0
-IsFound net nodes stops shortest from r = (r ≡ Err errors.NoMemory) ⊎ IsRowOrLack net nodes stops shortest from r
+abbrev pub IsFound : Adjacency → List ℕ → List ℕ → Bool → ℕ → Result (List (Option Cost)) RouteError → Type 0
+IsFound adjacency nodes stops shortest from r = (r ≡ Err errors.NoMemory) ⊎ IsRowOrLack adjacency nodes stops shortest from r
 
 -- the nodes at which routes end
 pub record AreStops (nodes stops : List ℕ) : Type 0 where
@@ -42,14 +42,14 @@ pub record IsToSearch (nodes : List ℕ) (s : Search) : Type 0 where
   pub from : Contains nodes s.from
 
 -- a search that was made
-pub record IsSearched (net : Net) (nodes stops : List ℕ) (shortest : Bool) (old new : Search) : Type 0 where
+pub record IsSearched (adjacency : Adjacency) (nodes stops : List ℕ) (shortest : Bool) (old new : Search) : Type 0 where
   pub from : new.from ≡ old.from
-  pub found : IsFound net nodes stops shortest new.from new.row
+  pub found : IsFound adjacency nodes stops shortest new.from new.row
 
 -- search by search
-abbrev pub AreSearched : Net → List ℕ → List ℕ → Bool → List Search → List Search → Type 0
-AreSearched net nodes stops shortest old new =
-    (length new ≡ length old) × ((k : ℕ) (e : Search) → k < length old → IsSearched net nodes stops shortest (slice_index_or old k e) (slice_index_or new k e))
+abbrev pub AreSearched : Adjacency → List ℕ → List ℕ → Bool → List Search → List Search → Type 0
+AreSearched adjacency nodes stops shortest old new =
+    (length new ≡ length old) × ((k : ℕ) (e : Search) → k < length old → IsSearched adjacency nodes stops shortest (slice_index_or old k e) (slice_index_or new k e))
 
 -- what all searches found
 abbrev pub rows_found : List Search → List (Result (List (Option Cost)) RouteError)
@@ -69,12 +69,12 @@ abbrev pub most_at_once : ℕ
 most_at_once = 256
 
 -- what was found from the first nodes, node by node
-pub record AreFound (net : Net) (nodes stops : List ℕ) (shortest : Bool) (found : List (Result (List (Option Cost)) RouteError)) : Type 0 where
+pub record AreFound (adjacency : Adjacency) (nodes stops : List ℕ) (shortest : Bool) (found : List (Result (List (Option Cost)) RouteError)) : Type 0 where
   pub few : length found ≤ length stops
-  pub each : (i from : ℕ) (r : Result (List (Option Cost)) RouteError) → i < length found → IsAt stops i from → IsFound net nodes stops shortest from (slice_index_or found i r)
+  pub each : (i from : ℕ) (r : Result (List (Option Cost)) RouteError) → i < length found → IsAt stops i from → IsFound adjacency nodes stops shortest from (slice_index_or found i r)
 
 -- the first error from these nodes, or memory ran out
-pub record IsRefused (net : Net) (nodes stops : List ℕ) (shortest : Bool) (e : RouteError) : Type 0 where
+pub record IsRefused (adjacency : Adjacency) (nodes stops : List ℕ) (shortest : Bool) (e : RouteError) : Type 0 where
   pub found : List (Result (List (Option Cost)) RouteError)
-  pub are : AreFound net nodes stops shortest found
+  pub are : AreFound adjacency nodes stops shortest found
   pub stopped : IsStopped found e

@@ -5,7 +5,7 @@ use Rattle.list_weights.specs.Places.{EachAt}
 use Rattle.host_inbox.specs.CarrierViews.{BoardsView, CarrierView}
 use Rattle.steal_workers.specs.SeatViews.{SeatView, IsSameSeat, HasMark}
 use Rattle.round_lookahead.specs.inside.Arrivals.{Boxed}
-use Rattle.round_lookahead.specs.declared.workers.task.Task.{Task}
+use Rattle.round_lookahead.specs.declared.workers.host_task.HostTask.{HostTask}
 use Rattle.host_link.specs.Net.{Net}
 use Rattle.host_state.specs.HostRecord.{HostRecord}
 use Rattle.round_lookahead.specs.declared.workers.bench.Bench.{Bench}
@@ -36,13 +36,13 @@ abbrev pub HaveWorked : Net → ℕ → List Bench → List Bench → Type 0
 HaveWorked net end old new = (length new ≡ length old) × ((k : ℕ) (e : Bench) → k < length old → HasWorked net end (slice_index_or old k e) (slice_index_or new k e))
 
 -- benches of these seats, in order, and of the carriers; worker k is at bench k
-pub record AreBenches (seats : List (SeatView Task)) (carriers : List (CarrierView Boxed)) (benches : List Bench) : Type 0 where
+pub record AreBenches (seats : List (SeatView HostTask)) (carriers : List (CarrierView Boxed)) (benches : List Bench) : Type 0 where
   pub seats_are : map (λ (b : Bench). b.seat) benches ≡ seats
   pub carriers_are : (id : TableId) → All (IsUnusedOf id) carriers → All (λ (b : Bench). IsUnusedOf id b.carrier) benches
   pub workers_are : EachAt (λ k (b : Bench). b.worker ≡ k) benches
 
 -- what was at the benches; all workers have worked
-pub record AreParts (benches : List Bench) (seats : List (SeatView Task)) (carriers : List (CarrierView Boxed)) (works : List Worked) : Type 0 where
+pub record AreParts (benches : List Bench) (seats : List (SeatView HostTask)) (carriers : List (CarrierView Boxed)) (works : List Worked) : Type 0 where
   pub seats_are : seats ≡ map (λ (b : Bench). b.seat) benches
   pub carriers_are : carriers ≡ map (λ (b : Bench). b.carrier) benches
   pub works_are : map Some works ≡ map (λ (b : Bench). b.worked) benches

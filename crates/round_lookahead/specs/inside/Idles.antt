@@ -2,17 +2,17 @@
 use Rattle.std.specs.Prelude.{◌≡◌, ℕ, ◌≤◌, Bool, ◌||◌, nat_lt, List, [], length, All, count_by, min, max}
 use Rattle.sim_base.specs.declared.event.Event.{Event}
 use Rattle.world_order.specs.Steps.{has_due}
-use Rattle.round_lookahead.specs.declared.workers.task.Task.{Task}
+use Rattle.round_lookahead.specs.declared.workers.host_task.HostTask.{HostTask}
 
 -- no packet waits for the host, and no event that it holds is due before the end
-pub record IsIdle (end : ℕ) (t : Task) : Type 0 where
+pub record IsIdle (end : ℕ) (t : HostTask) : Type 0 where
   pub none : t.parcels.items ≡ []
   pub later : All (λ (e : Event). end ≤ e.key.due.nanos) t.host.value.queue
 
 -- a packet waits for the host, or an event that it holds is due before the end
-abbrev pub is_busy : ℕ → Task → Bool
+abbrev pub is_busy : ℕ → HostTask → Bool
 is_busy end t = nat_lt 0 (length t.parcels.items) || has_due end t.host.value.queue
 
 -- how many threads could run a round of so many workers: no more than there are hosts with something to do, and one at least
-abbrev pub most_threads : ℕ → List Task → ℕ → ℕ
+abbrev pub most_threads : ℕ → List HostTask → ℕ → ℕ
 most_threads end tasks workers = max 1 (min workers (count_by (is_busy end) tasks))

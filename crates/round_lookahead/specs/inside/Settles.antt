@@ -11,7 +11,7 @@ use Rattle.run_files.specs.Written.{written_in}
 use Rattle.host_state.specs.Running.{kept_line}
 use Rattle.world_order.specs.Round.{in_order}
 use Rattle.world_order.specs.World as order
-use Rattle.round_lookahead.specs.declared.workers.task.Task.{Task}
+use Rattle.round_lookahead.specs.declared.workers.host_task.HostTask.{HostTask}
 use Rattle.round_lookahead.specs.declared.workers.worked.Done.{Done}
 use Rattle.round_lookahead.specs.declared.workers.worked.Worked.{Worked}
 use Rattle.round_lookahead.specs.declared.world.settling.Settled.{Settled}
@@ -30,7 +30,7 @@ pub record CanSettle (count : ℕ) (works : List Worked) (rows : List (Vec Boxed
 
 -- the host that came back waits in the place of its number, and what its processes wrote stands there
 pub record IsBack (s : Settled) (d : Done) : Type 0 where
-  pub task : Task
+  pub task : HostTask
   pub at : slice_get s.tasks.items d.id.index ≡ Some task
   pub id : task.id ≡ d.id
   pub host : task.host ≡ d.host
@@ -41,7 +41,7 @@ pub record HasSettled (count : ℕ) (works : List Worked) (rows : List (Vec Boxe
   pub tasks_count : length s.tasks.items ≡ count
   pub outputs_count : length (written_in s.gained.outputs) ≡ count
   pub hosts : All (IsBack s) (all_done works)
-  pub home : (net : Net) → All (λ (p : Parcel). home net (parcel_event p) ≡ p.to.index) (all_spilled works) → AreAtHome net rows → AreAtHome net (map (λ (t : Task). t.parcels) s.tasks.items)
-  pub packets : IsPermutation (row_arrivals (map (λ (t : Task). t.parcels) s.tasks.items)) (map parcel_event (all_spilled works) ++ row_arrivals rows)
+  pub home : (net : Net) → All (λ (p : Parcel). home net (parcel_event p) ≡ p.to.index) (all_spilled works) → AreAtHome net rows → AreAtHome net (map (λ (t : HostTask). t.parcels) s.tasks.items)
+  pub packets : IsPermutation (row_arrivals (map (λ (t : HostTask). t.parcels) s.tasks.items)) (map parcel_event (all_spilled works) ++ row_arrivals rows)
   pub lines : (all : List (order.Logged Line)) → lines_done (all_done works) ≡ map kept_line all → s.gained.lines.items ≡ map kept_line (in_order all)
   pub took : took_in s.gained.took ≡ took_by works

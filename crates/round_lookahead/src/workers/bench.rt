@@ -1,6 +1,6 @@
 //! Workers at their benches.
 
-use crate::workers::task::Task;
+use crate::workers::host_task::HostTask;
 use crate::workers::worked::Worked;
 use host_inbox::Carrier;
 use sim_base::Parcel;
@@ -10,7 +10,7 @@ use steal_workers::Seat;
 #[derive(Drop)]
 pub(crate) struct Bench {
     pub(crate) worker: u32,
-    pub(crate) seat: Seat<Task>,
+    pub(crate) seat: Seat<HostTask>,
     pub(crate) carrier: Carrier<Box<Parcel>>,
     pub(crate) worked: Option<Worked>,
 }

@@ -2,10 +2,10 @@
 ghost use Rattle.std.specs.Prelude.{◌≡◌, ◌≤◌, ◌<◌, ◌↔◌, false, count_by};
 ghost use Rattle.round_lookahead.specs.inside.Idles.{IsIdle, is_busy, most_threads};
 
-use crate::workers::task::Task;
+use crate::workers::host_task::HostTask;
 use sim_base::Time;
 
-impl Task {
+impl HostTask {
     /// Whether the host holds an event that is due before the end, or a packet waits for it.
     pub(crate) fn is_busy(&self, end: Time) -> bool
         ensures { (result ≡ false) ↔ IsIdle end.nanos self.now }
@@ -21,7 +21,7 @@ impl Task {
 }
 
 /// How many tasks have something to do before the end.
-fn busy_count(tasks: &[Task], end: Time) -> usize
+fn busy_count(tasks: &[HostTask], end: Time) -> usize
     ensures { result ≡ count_by (is_busy end.nanos) tasks.now }
 {
     let mut busy = 0;
@@ -34,7 +34,7 @@ fn busy_count(tasks: &[Task], end: Time) -> usize
 }
 
 /// How many threads could run a round of so many workers: no more than there are hosts with something to do, and one at least.
-pub(crate) fn most_threads(tasks: &[Task], end: Time, workers: u32) -> u32
+pub(crate) fn most_threads(tasks: &[HostTask], end: Time, workers: u32) -> u32
     requires { 0 < workers }
     ensures count { result ≡ most_threads end.nanos tasks.now workers }
     ensures within { (0 < result) × (result ≤ workers) }

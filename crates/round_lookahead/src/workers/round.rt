@@ -10,7 +10,7 @@ ghost use Rattle.round_lookahead.specs.Tasks.{AreTasks, AreTasksOf};
 
 use crate::workers::bench::Bench;
 use crate::workers::fork::fork;
-use crate::workers::task::Task;
+use crate::workers::host_task::HostTask;
 use crate::workers::worked::Worked;
 use host_inbox::{Boards, Carrier};
 use host_link::Net;
@@ -29,7 +29,7 @@ pub(crate) struct RoundLeft {
 /// What was at the benches.
 #[derive(Drop)]
 struct BenchParts {
-    seats: Vec<Seat<Task>>,
+    seats: Vec<Seat<HostTask>>,
     carriers: Vec<Carrier<Box<Parcel>>>,
     works: Vec<Worked>,
 }
@@ -37,7 +37,7 @@ struct BenchParts {
 /// A bench for each seat, with a carrier.
 fn benches_of(
     alloc: Global,
-    seats: Vec<Seat<Task>>,
+    seats: Vec<Seat<HostTask>>,
     mut carriers: Vec<Carrier<Box<Parcel>>>,
 ) -> Result<Vec<Bench>, NoMemory>
     requires count { (vec_len carriers ≡ vec_len seats) × (vec_len seats ≤ most_workers) }
@@ -124,7 +124,7 @@ pub(crate) fn run_beside<R: Threads + Sync, G: Gate + Sync>(
     alloc: Global,
     net: &Net,
     end: Time,
-    tasks: Vec<Task>,
+    tasks: Vec<HostTask>,
     workers: u32,
     threads: u32,
     gate: &G,

@@ -9,7 +9,7 @@ ghost use Rattle.round_lookahead.specs.inside.Arrivals.{arrivals};
 ghost use Rattle.round_lookahead.specs.Tasks.{IsTask};
 ghost use Rattle.round_lookahead.specs.Works.{HasRun, done_of};
 
-use crate::workers::task::{Task, due_of};
+use crate::workers::host_task::{HostTask, due_of};
 use crate::workers::worked::Done;
 use host_link::{Net, Outbox};
 use host_state::Host;
@@ -47,7 +47,7 @@ fn join_parcels(host: &mut Host, parcels: Vec<Box<Parcel>>) -> Result<(), NoMemo
     Ok(())
 }
 
-impl Task {
+impl HostTask {
     /// Runs the host, with the parcels that wait for it, up to the end. What it made is handed out.
     pub(crate) fn run_here(
         &mut self,
@@ -81,7 +81,7 @@ pub(crate) fn run_task(
     alloc: Global,
     net: &Net,
     end: Time,
-    task: Task,
+    task: HostTask,
 ) -> Result<Finished, NoMemory>
     requires stop { net.now.stop.nanos ≤ latest_time }
     requires until { end.nanos ≤ net.now.stop.nanos }
@@ -96,7 +96,7 @@ pub(crate) fn run_task(
         outputs,
         ..
     } = task.run_here(alloc, net, end)?;
-    let Task { id, host, .. } = task;
+    let HostTask { id, host, .. } = task;
     let done = Done {
         id,
         host,

@@ -5,13 +5,13 @@ ghost use Rattle.sim_base.specs.Units.{latest_time};
 ghost use Rattle.host_inbox.specs.Sizes.{most_inboxes};
 ghost use Rattle.steal_workers.specs.SeatViews.{IsSameSeat, HasMark};
 ghost use Rattle.host_state.specs.HostRecord.{HostRecord};
-ghost use Rattle.round_lookahead.specs.declared.workers.task.Task.{Task};
+ghost use Rattle.round_lookahead.specs.declared.workers.host_task.HostTask.{HostTask};
 ghost use Rattle.round_lookahead.specs.Tasks.{IsTask, AreTasks, AreTasksOf};
 ghost use Rattle.round_lookahead.specs.Works.{HostJob, IsWorkOf, IsWork};
 
+use crate::workers::host_task::HostTask;
 use crate::workers::posting::post_all;
 use crate::workers::running::{Finished, run_task};
-use crate::workers::task::Task;
 use crate::workers::worked::Worked;
 use host_inbox::{Boards, Carrier};
 use host_link::Net;
@@ -41,7 +41,7 @@ fn work_one(
     _worker: u32,
     boards: &Boards<Box<Parcel>>,
     carrier: &mut Carrier<Box<Parcel>>,
-    task: Task,
+    task: HostTask,
     shift: &mut Shift,
 ) -> Result<(), NoMemory>
     requires stop { net.now.stop.nanos ≤ latest_time }
@@ -53,7 +53,7 @@ fn work_one(
     ensures boards { carrier.new.boards ≡ carrier.old.boards }
     ensures puts { OnOk result (length carrier.new.entries ≡ shift.new.puts) }
     ensures lost { OnOk result (shift.new.lost ≡ shift.old.lost) }
-    ensures worked { OnOk result ((tasks : List Task) (rec : ℕ → HostRecord) (jobs : List HostJob) → slice_get tasks task.id.index ≡ Some task → IsTask net.now task.id.index task (rec task.id.index)
+    ensures worked { OnOk result ((tasks : List HostTask) (rec : ℕ → HostRecord) (jobs : List HostJob) → slice_get tasks task.id.index ≡ Some task → IsTask net.now task.id.index task (rec task.id.index)
         → IsWorkOf net.now end.nanos _worker tasks rec jobs carrier.old.entries shift.old.worked
         → (job : HostJob) × (job.number ≡ task.id.index) × IsWorkOf net.now end.nanos _worker tasks rec (jobs ++ job ∷ []) carrier.new.entries shift.new.worked) }
 {
@@ -77,7 +77,7 @@ fn turn<G: Gate>(
     net: &Net,
     end: Time,
     worker: u32,
-    seat: &mut Seat<Task>,
+    seat: &mut Seat<HostTask>,
     boards: &Boards<Box<Parcel>>,
     carrier: &mut Carrier<Box<Parcel>>,
     gate: &G,
@@ -124,7 +124,7 @@ pub fn work<G: Gate>(
     net: &Net,
     end: Time,
     worker: u32,
-    seat: &mut Seat<Task>,
+    seat: &mut Seat<HostTask>,
     boards: &Boards<Box<Parcel>>,
     carrier: &mut Carrier<Box<Parcel>>,
     gate: &G,

@@ -6,7 +6,7 @@ ghost use Rattle.round_lookahead.specs.inside.Arrivals.{arrivals};
 ghost use Rattle.round_lookahead.specs.inside.Dues.{first_due, lesser_due};
 ghost use Rattle.round_lookahead.specs.Tasks.{waiting};
 
-use crate::workers::task::Task;
+use crate::workers::host_task::HostTask;
 use sim_base::{Parcel, Time};
 
 /// The earlier of two times, either of which may be missing.
@@ -42,7 +42,7 @@ pub(crate) fn first_spilled(parcels: &[Parcel]) -> Option<Time>
     least
 }
 
-impl Task {
+impl HostTask {
     /// When the first event that the host holds or that waits for it is due.
     fn next_due(&self) -> Option<Time>
         ensures { IsLeastDue (waiting self.now) result }
@@ -52,7 +52,7 @@ impl Task {
 }
 
 /// When the first event of all hosts is due; none where there is no event.
-pub(crate) fn least_due(tasks: &[Task]) -> Option<Time>
+pub(crate) fn least_due(tasks: &[HostTask]) -> Option<Time>
     ensures { result ≡ first_due (flat_map waiting tasks.now) }
 {
     let mut least = None;

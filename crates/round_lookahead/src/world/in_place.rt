@@ -5,7 +5,7 @@ ghost use Rattle.run_files.specs.Written.{written_in};
 ghost use Rattle.round_lookahead.specs.Alone.{AreRunInPlace, HasKept, HasPassed};
 ghost use Rattle.round_lookahead.specs.Tasks.{AreTasksOf};
 
-use crate::workers::task::Task;
+use crate::workers::host_task::HostTask;
 use crate::world::due::earlier;
 use crate::world::load::RoundLoad;
 use host_link::{Logged, Net, Outbox};
@@ -77,7 +77,7 @@ pub(crate) fn run_in_place<G: Gate>(
     alloc: Global,
     net: &Net,
     end: Time,
-    tasks: &mut [Task],
+    tasks: &mut [HostTask],
     gate: &G,
 ) -> Result<Alone, NoMemory>
     requires stop { net.now.stop.nanos ≤ latest_time }

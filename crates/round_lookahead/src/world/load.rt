@@ -1,7 +1,7 @@
 //! Whether a round is worth threads, by what the last rounds had to do.
 ghost use Rattle.std.specs.Prelude.{◌≤◌, ◌<◌};
 
-use crate::workers::task::Task;
+use crate::workers::host_task::HostTask;
 use sim_base::NoMemory;
 use std::alloc::Global;
 
@@ -42,7 +42,7 @@ impl RoundLoad {
     }
 
     /// Of all hosts, each of which had so much to do before the round.
-    pub(crate) fn since(tasks: &[Task], before: &[u64]) -> RoundLoad {
+    pub(crate) fn since(tasks: &[HostTask], before: &[u64]) -> RoundLoad {
         let mut load = RoundLoad::new();
         for (task, before) in tasks.iter().zip(before.iter()) {
             load.add(task.work.saturating_sub(*before));
@@ -52,7 +52,7 @@ impl RoundLoad {
 }
 
 /// What each host had to do so far.
-pub(crate) fn works_of(alloc: Global, tasks: &[Task]) -> Result<Vec<u64>, NoMemory> {
+pub(crate) fn works_of(alloc: Global, tasks: &[HostTask]) -> Result<Vec<u64>, NoMemory> {
     let mut works = Vec::with_capacity(alloc, tasks.len())?;
     for task in tasks {
         works.push(task.work)?;

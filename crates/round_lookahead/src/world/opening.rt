@@ -5,7 +5,7 @@ ghost use Rattle.run_files.specs.Listed.{HasIds, names_of};
 ghost use Rattle.round_lookahead.specs.OpeningWorld.{AreHostRows, AreOpened, IsOpened, opening_world};
 ghost use Rattle.round_lookahead.specs.WorldStands.{HasRounds, WorldStands, nanos_of};
 
-use crate::workers::task::Task;
+use crate::workers::host_task::HostTask;
 use crate::world::counts::Counts;
 use crate::world::due::least_due;
 use crate::world::load::Load;
@@ -18,17 +18,17 @@ use sim_base::{NoMemory, Time};
 use std::alloc::Global;
 
 /// The host of a row at the beginning.
-fn open_host(alloc: Global, row: Row, net: &Net) -> Result<Task, NoMemory>
+fn open_host(alloc: Global, row: Row, net: &Net) -> Result<HostTask, NoMemory>
     requires { FitsNet net.now row }
     ensures { IfOk result (IsOpened row) }
 {
     let id = row.host;
     let host = Box::new(alloc, Host::new(row, net)?)?;
-    Ok(Task::new(id, host, Vec::new(alloc)))
+    Ok(HostTask::new(id, host, Vec::new(alloc)))
 }
 
 /// The hosts of all rows.
-fn open_hosts(alloc: Global, rows: Vec<Row>, net: &Net) -> Result<Vec<Task>, NoMemory>
+fn open_hosts(alloc: Global, rows: Vec<Row>, net: &Net) -> Result<Vec<HostTask>, NoMemory>
     requires { AreHostRows net.now rows.items }
     ensures { IfOk result (λ tasks. AreOpened rows.items tasks.items) }
 {

@@ -2,7 +2,7 @@
 ghost use Rattle.std.specs.Prelude.{◌≡◌, IfOk, length};
 ghost use Rattle.round_lookahead.specs.inside.Retasks as spec;
 
-use crate::workers::task::Task;
+use crate::workers::host_task::HostTask;
 use crate::world::backs::Back;
 use run_files::Written;
 use sim_base::{NoMemory, Parcel};
@@ -11,7 +11,7 @@ use std::alloc::Global;
 /// The tasks of the next round, and what was written, by host.
 #[derive(Drop)]
 pub(crate) struct Retasked {
-    pub(crate) tasks: Vec<Task>,
+    pub(crate) tasks: Vec<HostTask>,
     pub(crate) outputs: Written,
 }
 
@@ -34,7 +34,7 @@ pub(crate) fn retask(
             unreachable!()
         };
         let Back { id, host, outputs } = back;
-        retasked.tasks.push(Task::new(id, host, parcels))?;
+        retasked.tasks.push(HostTask::new(id, host, parcels))?;
         retasked.outputs.push(outputs)?;
     }
     Ok(retasked)

@@ -2,7 +2,7 @@
 ghost use Rattle.std.specs.Prelude.{IfOk};
 ghost use Rattle.round_lookahead.specs.inside.Settles.{CanSettle, HasSettled};
 
-use crate::workers::task::Task;
+use crate::workers::host_task::HostTask;
 use crate::workers::worked::Worked;
 use crate::world::backs::{Returned, all_back, put_back};
 use crate::world::delivery::deliver;
@@ -16,7 +16,7 @@ use std::alloc::Global;
 /// The hosts of the next round, and what the last one gained.
 #[derive(Drop)]
 pub(crate) struct Settled {
-    pub(crate) tasks: Vec<Task>,
+    pub(crate) tasks: Vec<HostTask>,
     pub(crate) gained: Gained,
 }
 

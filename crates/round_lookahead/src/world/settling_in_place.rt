@@ -6,7 +6,7 @@ ghost use Rattle.round_lookahead.specs.inside.Dues.{first_due};
 ghost use Rattle.round_lookahead.specs.RoundsInPlace.{IsRoundInPlace};
 ghost use Rattle.round_lookahead.specs.Tasks.{AreTasksOf, waiting};
 
-use crate::workers::task::Task;
+use crate::workers::host_task::HostTask;
 use crate::world::due::{earlier, first_spilled};
 use crate::world::gained::Gained;
 use crate::world::in_place::{Alone, run_in_place};
@@ -34,7 +34,7 @@ pub(crate) fn round_in_place<G: Gate>(
     alloc: Global,
     net: &Net,
     end: Time,
-    tasks: &mut Vec<Task>,
+    tasks: &mut Vec<HostTask>,
     workers: u32,
     gate: &G,
 ) -> Result<RanInPlace, NoMemory>

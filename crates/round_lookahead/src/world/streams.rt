@@ -6,7 +6,7 @@ ghost use Rattle.host_state.specs.WorldStreams.{kept_by, streams_in};
 ghost use Rattle.round_lookahead.specs.WorldStands.{HostWorld, WorldStands};
 ghost use Rattle.stream_pairs.specs.Directions.{kept_in};
 
-use crate::workers::task::Task;
+use crate::workers::host_task::HostTask;
 use crate::world::world_state::World;
 use out_text::Stream;
 use sim_base::NoMemory;
@@ -14,7 +14,7 @@ use std::alloc::Global;
 use stream_pairs::{KeptStreams, directions};
 
 /// What a host keeps of its connections.
-fn kept_by(alloc: Global, task: &Task) -> Result<KeptStreams, NoMemory>
+fn kept_by(alloc: Global, task: &HostTask) -> Result<KeptStreams, NoMemory>
     ensures { IfOk result (λ kept. (h : HostRecord) → Stands task.now.host.value h → task.now.id.index ≡ h.link.number → kept_in kept ≡ kept_by h) }
 {
     Ok(KeptStreams {

@@ -6,12 +6,12 @@ ghost use Rattle.host_link.specs.Net.{Net};
 ghost use Rattle.round_lookahead.specs.inside.Backs.{row_arrivals, AreAtHome};
 ghost use Rattle.round_lookahead.specs.inside.Waits.{IsSameHosts, rows_of};
 
-use crate::workers::task::Task;
+use crate::workers::host_task::HostTask;
 use sim_base::{NoMemory, Parcel};
 use std::alloc::Global;
 
 /// A packet joins those that wait for its host.
-fn wait_one(alloc: Global, tasks: &mut [Task], parcel: Parcel) -> Result<(), NoMemory>
+fn wait_one(alloc: Global, tasks: &mut [HostTask], parcel: Parcel) -> Result<(), NoMemory>
     requires { parcel.to.index < length tasks.old }
     ensures hosts { OnOk result (IsSameHosts tasks.old tasks.new) }
     ensures events { OnOk result (IsPermutation (row_arrivals (rows_of tasks.new)) (parcel_event parcel ∷ row_arrivals (rows_of tasks.old))) }
@@ -27,7 +27,7 @@ fn wait_one(alloc: Global, tasks: &mut [Task], parcel: Parcel) -> Result<(), NoM
 /// Packets join those that wait for their hosts.
 pub(crate) fn wait_all(
     alloc: Global,
-    tasks: &mut [Task],
+    tasks: &mut [HostTask],
     parcels: Vec<Parcel>,
 ) -> Result<(), NoMemory>
     requires { All (λ p. p.to.index < length tasks.old) parcels.items }

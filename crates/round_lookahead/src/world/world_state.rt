@@ -5,7 +5,7 @@ ghost use Rattle.std.specs.Prelude.{◌≡◌, flat_map};
 ghost use Rattle.round_lookahead.specs.inside.Dues.{first_due};
 ghost use Rattle.round_lookahead.specs.Tasks.{waiting};
 
-use crate::workers::task::Task;
+use crate::workers::host_task::HostTask;
 use crate::world::counts::Counts;
 use crate::world::load::Load;
 use host_link::Net;
@@ -21,7 +21,7 @@ pub struct World {
     pub(crate) net: Net,
     pub(crate) lookahead: Option<Time>,
     pub(crate) listing: Listing,
-    pub(crate) tasks: Vec<Task>,
+    pub(crate) tasks: Vec<HostTask>,
     pub(crate) due: Option<Time>,
     ghost told: { due ≡ first_due (flat_map waiting tasks.items) } by { Prim.hlevel props },
     pub(crate) counts: Counts,

@@ -104,8 +104,8 @@ discards count r = record r { discarded = r.discarded + count; rcv = r.rcv + cou
 
 -- text is kept; once reading has ended it is thrown away, and once the socket is closed the
 -- connection is reset (section 3.6.1)
-unfoldable pub takes : List ℕ → Turn → Turn
-takes bytes t =
+unfoldable pub text_comes : List ℕ → Turn → Turn
+text_comes bytes t =
     if length bytes == 0 then t
     else if t.tcb.control.closed then vanishes (sends_reset t)
     else if t.tcb.control.reading_ended then changed (discards (length bytes)) t
@@ -113,7 +113,7 @@ takes bytes t =
 
 unfoldable pub receives_text : Header → List ℕ → Turn → Turn
 receives_text h text t =
-    if takes_text t.tcb.control.state then takes (fitting_text h text t.tcb) t else t
+    if takes_text t.tcb.control.state then text_comes (fitting_text h text t.tcb) t else t
 
 -- a FIN is taken where all before it was
 abbrev pub fin_is_due : Header → List ℕ → Tcb → Bool

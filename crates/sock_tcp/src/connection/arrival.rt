@@ -11,7 +11,7 @@ impl Conn {
     ghost use Rattle.sock_tcp.specs.segment.Number.{distance};
     ghost use Rattle.sock_tcp.specs.segment.State.{is_opening};
     ghost use Rattle.sock_tcp.specs.segment.Verdict.{ComesIn};
-    ghost use Rattle.sock_tcp.specs.connection.Arrival.{verdict, fresh_text, fitting_text, keeps, discards, takes, receives_text, fin_is_due, fin_received, receives_fin, wants_ack, answers, waits_again, concludes, unless_over, receives, connects, acts_on, takes_segment};
+    ghost use Rattle.sock_tcp.specs.connection.Arrival.{verdict, fresh_text, fitting_text, keeps, discards, text_comes, receives_text, fin_is_due, fin_received, receives_fin, wants_ack, answers, waits_again, concludes, unless_over, receives, connects, acts_on, takes_segment};
     ghost use Rattle.sock_tcp.specs.connection.StandsFor.{StandsFor, Does};
 
     /// The text that begins where it is expected: what was received before is cut off.
@@ -60,10 +60,10 @@ impl Conn {
     }
 
     /// Keeps text, throws it away, or resets the connection for it.
-    #[tactic(auto, unfolding(crate::specs::connection::Arrival::takes))]
+    #[tactic(auto, unfolding(crate::specs::connection::Arrival::text_comes))]
     fn take(&mut self, draft: &mut Draft, bytes: &[u8]) -> Result<(), NoMemory>
         requires { length bytes.now + length self.old.receive.items ≤ buffer_size }
-        ensures { OnOk result (Does (takes bytes.now) self.old draft.old self.new draft.new) }
+        ensures { OnOk result (Does (text_comes bytes.now) self.old draft.old self.new draft.new) }
     {
         if bytes.is_empty() {
             return Ok(());

@@ -11,19 +11,19 @@ search_all-requires-clause-from g c κs within =
     to_search c.args.nodes.now c.args.stops.now c.next_stops.result.now c.len.result c.in_ok-searches.searches.items c.requires.stops.each c.next_stops.ensures.next c.in_ok-searches.ensures
 
 -- what was found before, and now
-found : (g : _) (c : goal.After-add_found g) → AreFound c.args.net.now c.args.nodes.now c.args.stops.now c.args.shortest (oks c.args.rows.now ++ rows_found c.search_all.new.searches.items)
+found : (g : _) (c : goal.After-add_found g) → AreFound c.args.adjacency.now c.args.nodes.now c.args.stops.now c.args.shortest (oks c.args.rows.now ++ rows_found c.search_all.new.searches.items)
 found g c =
-    let net = c.args.net.now in
+    let adjacency = c.args.adjacency.now in
     let nodes = c.args.nodes.now in
     let stops = c.args.stops.now in
     let part = c.next_stops.result.now in
-    let made = all_made net nodes stops c.args.shortest _ _ c.search_all.ensures in
+    let made = all_made adjacency nodes stops c.args.shortest _ _ c.search_all.ensures in
     let next : part ≡ take most_at_once (drop (length (oks c.args.rows.now)) stops) = c.next_stops.ensures.next ∙ ap (λ (n : ℕ). take most_at_once (drop n stops)) (c.len.ensures ∙ sym (as_many_oks c.args.rows.now)) in
-    found_more net nodes stops part c.args.shortest (oks c.args.rows.now) c.search_all.new.searches.items (made.1 ∙ c.in_ok-searches.ensures) next c.requires.found.few c.requires.found made.0
+    found_more adjacency nodes stops part c.args.shortest (oks c.args.rows.now) c.search_all.new.searches.items (made.1 ∙ c.in_ok-searches.ensures) next c.requires.found.few c.requires.found made.0
 
 pub returns-clause-ok : goal.returns-clause-ok
 returns-clause-ok g c =
-    let F : List (Result (List (Option Cost)) RouteError) → Type 0 = λ l. AreFound c.args.net.now c.args.nodes.now c.args.stops.now c.args.shortest l in
+    let F : List (Result (List (Option Cost)) RouteError) → Type 0 = λ l. AreFound c.args.adjacency.now c.args.nodes.now c.args.stops.now c.args.shortest l in
     on_ok_weaker c.add_found.result (λ is. subst F (sym is) (found g c)) c.add_found.ensures.ok
 
 pub returns-clause-err : goal.returns-clause-err

@@ -5,7 +5,7 @@ use Rattle.std.proofs.lemmas.Result.{err_from_is_err_and}
 use Rattle.std.specs.List.Sorted.{IsStrictlyIncreasing}
 use Rattle.net_routes.specs.declared.hop.Hop.{Hop}
 use Rattle.net_routes.specs.Walk.{hops}
-use Rattle.net_routes.specs.inside.Net.{IsNet}
+use Rattle.net_routes.specs.inside.Adjacency.{IsAdjacency}
 use Rattle.net_routes.specs.Routes.{route_in}
 use Rattle.net_routes.specs.inside.RouteMaps.{map_of}
 use Rattle.net_routes.proofs.RouteLemmas.{some_route, some_there, stops_of}
@@ -26,18 +26,18 @@ returns-in_err-rows-clause-err g c =
     let ids = c.as_slice-ids.result.now in
     let all = stops_of ids c.from-stops.result c.in_ok-from_slice.field-0.items nodes c.as_slice-ids.ensures.ids c.in_ok-from_slice.ensures.items c.from-stops.ensures.ids in
     let U : List ℕ → Type 0 = λ xs. IsStrictlyIncreasing xs in
-    let N : List Hop → Type 0 = λ ss. IsNet ss c.in_ok-net.net.places c.in_ok-net.net.rows.items in
-    let net : IsNet (hops graph) c.in_ok-net.net.places c.in_ok-net.net.rows.items = subst N (c.as_slice.ensures.value ∙ c.in_ok-hops.ensures.hops) c.in_ok-net.ensures.net in
+    let N : List Hop → Type 0 = λ ss. IsAdjacency ss c.in_ok-adjacency.adjacency.places c.in_ok-adjacency.adjacency.rows.items in
+    let adjacency : IsAdjacency (hops graph) c.in_ok-adjacency.adjacency.places c.in_ok-adjacency.adjacency.rows.items = subst N (c.as_slice.ensures.value ∙ c.in_ok-hops.ensures.hops) c.in_ok-adjacency.ensures.adjacency in
     let p = err_from_is_err_and c.from_residual-in_err-rows.result c.from_residual-in_err-rows.ensures.1 in
-    rw (p.1, p.2) (refused_in graph c.in_ok-net.net nodes ids c.args.shortest c.in_err-rows.field-0.0 (subst U (sym c.as_slice-ids.ensures.ids) c.as_slice-ids.ensures.rising) all net c.in_err-rows.ensures.err)
+    rw (p.1, p.2) (refused_in graph c.in_ok-adjacency.adjacency nodes ids c.args.shortest c.in_err-rows.field-0.0 (subst U (sym c.as_slice-ids.ensures.ids) c.as_slice-ids.ensures.rising) all adjacency c.in_err-rows.ensures.err)
 
 -- the rows that are kept
-rows_are : (g : _) (c : goal.After-drop-hops-2 g) → AreRowsFound c.args.graph.now c.in_ok-net.net c.args.nodes.now c.from-stops.result c.as_slice-ids.result.now c.args.shortest c.in_ok-rows.rows
+rows_are : (g : _) (c : goal.After-drop-hops-2 g) → AreRowsFound c.args.graph.now c.in_ok-adjacency.adjacency c.args.nodes.now c.from-stops.result c.as_slice-ids.result.now c.args.shortest c.in_ok-rows.rows
 rows_are g c =
-    let N : List Hop → Type 0 = λ ss. IsNet ss c.in_ok-net.net.places c.in_ok-net.net.rows.items in
+    let N : List Hop → Type 0 = λ ss. IsAdjacency ss c.in_ok-adjacency.adjacency.places c.in_ok-adjacency.adjacency.rows.items in
     record {
       is = c.as_slice-ids.ensures.ids;
-      net_is = subst N (c.as_slice.ensures.value ∙ c.in_ok-hops.ensures.hops) c.in_ok-net.ensures.net;
+      adjacency_is = subst N (c.as_slice.ensures.value ∙ c.in_ok-hops.ensures.hops) c.in_ok-adjacency.ensures.adjacency;
       found = c.in_ok-rows.ensures.ok;
       all = c.in_ok-rows.ensures.all;
     }

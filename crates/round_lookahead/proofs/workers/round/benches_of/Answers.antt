@@ -6,7 +6,7 @@ use Rattle.std.specs.Vec.Iter.{into_iter_items}
 use Rattle.steal_workers.specs.SeatViews.{SeatView}
 use Rattle.list_weights.specs.Places.{EachAt}
 use Rattle.round_lookahead.specs.declared.workers.bench.Bench.{Bench}
-use Rattle.round_lookahead.specs.declared.workers.task.Task.{Task}
+use Rattle.round_lookahead.specs.declared.workers.host_task.HostTask.{HostTask}
 use Rattle.round_lookahead.specs.inside.Benches.{IsUnusedOf}
 use Rattle.round_lookahead.proofs.BenchSteps.{seats_more, workers_more}
 use Rattle.round_lookahead.proofs.workers.round.benches_of.Goals as goal
@@ -21,8 +21,8 @@ loop-seat-preserved c =
     let joins : c.push_reserved.new.self.items ≡ old ++ one ∷ [] = c.push_reserved.ensures.items in
     let long = ap length step in
     record {
-      seats = ap (λ (l : List Bench). map (λ (b : Bench). b.seat) l ++ rest) joins ∙ ap (λ (l : List (SeatView Task)). l ++ rest) (seats_more old one)
-          ∙ append_assoc (map (λ (b : Bench). b.seat) old) (c.in-Some.seat ∷ []) rest ∙ ap (λ (l : List (SeatView Task)). map (λ (b : Bench). b.seat) old ++ l) (sym step) ∙ inv.seats;
+      seats = ap (λ (l : List Bench). map (λ (b : Bench). b.seat) l ++ rest) joins ∙ ap (λ (l : List (SeatView HostTask)). l ++ rest) (seats_more old one)
+          ∙ append_assoc (map (λ (b : Bench). b.seat) old) (c.in-Some.seat ∷ []) rest ∙ ap (λ (l : List (SeatView HostTask)). map (λ (b : Bench). b.seat) old ++ l) (sym step) ∙ inv.seats;
       left = (let l = inv.left in let p = c.in-Some-pop.ensures.cases in omega arith);
       count = (let n = inv.count in let p = c.push_reserved.ensures.len in omega arith);
       room = (let r = inv.room in let p = c.push_reserved.ensures.capacity in omega arith);
@@ -40,7 +40,7 @@ returns c =
     let inv = c.loop-seat.invariant in
     let none : into_iter_items c.loop-seat.seat-iterator ≡ [] = nil_from_length (into_iter_items c.loop-seat.seat-iterator) (let e = c.in-None.ensures.steps.0 in omega (arith, c.loop-seat.seat-iterator.rest.ok.0)) in
     record {
-      seats_are = sym (append-nil (map (λ (b : Bench). b.seat) c.loop-seat.benches.items)) ∙ ap (λ (l : List (SeatView Task)). map (λ (b : Bench). b.seat) c.loop-seat.benches.items ++ l) (sym none) ∙ inv.seats;
+      seats_are = sym (append-nil (map (λ (b : Bench). b.seat) c.loop-seat.benches.items)) ∙ ap (λ (l : List (SeatView HostTask)). map (λ (b : Bench). b.seat) c.loop-seat.benches.items ++ l) (sym none) ∙ inv.seats;
       carriers_are = λ id all. (inv.carriers id all).1;
       workers_are = inv.workers;
     }

@@ -3,14 +3,14 @@ use Rattle.std.proofs.Common.{◌≡◌, ◌+◌, ◌<◌, Bool, true, length, s
 use Rattle.steal_workers.specs.Deals.{Deal}
 use Rattle.steal_workers.specs.SeatViews.{HasMark}
 use Rattle.steal_workers.proofs.SameSeats.{same_seat_trans}
-use Rattle.round_lookahead.specs.declared.workers.task.Task.{Task}
+use Rattle.round_lookahead.specs.declared.workers.host_task.HostTask.{HostTask}
 use Rattle.round_lookahead.specs.Tasks.{AreTasks}
 use Rattle.round_lookahead.specs.Works.{IsWork}
 use Rattle.round_lookahead.proofs.workers.working.work.Goals as goal
 
 pub returns-then-not-branch-clause-worked : goal.returns-then-not-branch-clause-worked
 returns-then-not-branch-clause-worked g c = λ rec are.
-    subst (λ (d : Deal Task). AreTasks c.args.net.now d.tasks rec → IsWork c.args.net.now c.args.end.nanos c.args.worker d.tasks rec c.args.seat.now.numbers c.loop.seat.numbers c.loop.carrier.entries c.loop.shift.worked
+    subst (λ (d : Deal HostTask). AreTasks c.args.net.now d.tasks rec → IsWork c.args.net.now c.args.end.nanos c.args.worker d.tasks rec c.args.seat.now.numbers c.loop.seat.numbers c.loop.carrier.entries c.loop.shift.worked
     → IsWork c.args.net.now c.args.end.nanos c.args.worker d.tasks rec c.args.seat.now.numbers c.turn.new.seat.numbers c.turn.new.carrier.entries c.turn.new.shift.worked)
     c.loop.invariant.same.deal (c.in_ok-turn.ensures.worked rec c.args.seat.now.numbers) are (c.loop.invariant.worked rec are)
 
@@ -29,7 +29,7 @@ loop-preserved g c =
       count = (let n = inv.count in let m = more.1 in omega arith);
       below = λ some. c.in_ok-turn.ensures.below;
       worked = λ rec are.
-          subst (λ (d : Deal Task). AreTasks c.args.net.now d.tasks rec → IsWork c.args.net.now c.args.end.nanos c.args.worker d.tasks rec c.args.seat.now.numbers c.loop.seat.numbers c.loop.carrier.entries c.loop.shift.worked
+          subst (λ (d : Deal HostTask). AreTasks c.args.net.now d.tasks rec → IsWork c.args.net.now c.args.end.nanos c.args.worker d.tasks rec c.args.seat.now.numbers c.loop.seat.numbers c.loop.carrier.entries c.loop.shift.worked
           → IsWork c.args.net.now c.args.end.nanos c.args.worker d.tasks rec c.args.seat.now.numbers c.turn.new.seat.numbers c.turn.new.carrier.entries c.turn.new.shift.worked)
           c.loop.invariant.same.deal (c.in_ok-turn.ensures.worked rec c.args.seat.now.numbers) are (c.loop.invariant.worked rec are);
     }

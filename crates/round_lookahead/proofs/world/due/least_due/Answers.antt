@@ -1,7 +1,7 @@
 use Rattle.std.proofs.Common.{◌≡◌, ◌+◌, List, take, flat_map, subst, arith}
 use Rattle.std.proofs.lemmas.List.{take_all}
 use Rattle.event_order.specs.Events.{IsLeastDue}
-use Rattle.round_lookahead.specs.declared.workers.task.Task.{Task}
+use Rattle.round_lookahead.specs.declared.workers.host_task.HostTask.{HostTask}
 use Rattle.round_lookahead.specs.Tasks.{waiting}
 use Rattle.round_lookahead.proofs.DueSteps.{least_more, parts-more}
 use Rattle.round_lookahead.proofs.IdleSteps.{first-is}
@@ -16,4 +16,4 @@ loop-task-preserved c =
 pub returns : goal.returns
 returns c =
     let all : take c.loop-task.task-index c.args.tasks.now ≡ c.args.tasks.now = take_all c.loop-task.task-index c.args.tasks.now (let past = c.loop-task-test.false in omega arith) in
-    first-is (flat_map waiting c.args.tasks.now) c.loop-task.least (subst (λ (l : List Task). IsLeastDue (flat_map waiting l) c.loop-task.least) all c.loop-task.invariant)
+    first-is (flat_map waiting c.args.tasks.now) c.loop-task.least (subst (λ (l : List HostTask). IsLeastDue (flat_map waiting l) c.loop-task.least) all c.loop-task.invariant)

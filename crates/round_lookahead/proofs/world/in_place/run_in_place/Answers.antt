@@ -4,7 +4,7 @@ use Rattle.sim_base.specs.declared.event.Parcel.{Parcel}
 use Rattle.round_lookahead.specs.Alone.{AreRunInPlace}
 use Rattle.round_lookahead.proofs.AloneSteps.{none_placed, kept_more, passed_more, may_run_here}
 use Rattle.round_lookahead.proofs.PlaceSteps.{get_or_at}
-use Rattle.round_lookahead.specs.declared.workers.task.Task.{Task}
+use Rattle.round_lookahead.specs.declared.workers.host_task.HostTask.{HostTask}
 use Rattle.round_lookahead.proofs.world.in_place.run_in_place.Goals as goal
 use Rattle.round_lookahead.proofs.world.in_place.run_in_place.Goals.{then-is_busy+in_ok-out+in_ok-keep, else-is_busy+in_ok-pass}
 
@@ -30,7 +30,7 @@ loop-task-preserved g c =
     let r = c.loop-task.invariant.run in
     let within : i < length c.loop-task.tasks = omega (arith, c.loop-task-test.true, r.all) in
     let next : suc i ≡ i + 1 = omega arith in
-    let t : Task = get_or c.loop-task.tasks i c.task-item.result in
+    let t : HostTask = get_or c.loop-task.tasks i c.task-item.result in
     let here = get_or_at c.loop-task.tasks i c.task-item.result within in
     let few : i + 1 ≤ length c.args.tasks.now = omega (arith, c.loop-task-test.true) in
     elim c.if-is_busy.branch [

@@ -1,6 +1,6 @@
 use Rattle.std.proofs.Common.{◌≡◌, ℕ, ◌≤◌, length, sym, ap, subst, arith, Vec, Global}
 use Rattle.world_order.proofs.Orders.{window_upto}
-use Rattle.round_lookahead.specs.declared.workers.task.Task.{Task}
+use Rattle.round_lookahead.specs.declared.workers.host_task.HostTask.{HostTask}
 use Rattle.round_lookahead.specs.Tasks.{AreTasksOf}
 use Rattle.round_lookahead.specs.WorldStands.{nanos_of}
 use Rattle.round_lookahead.proofs.WorldGains.{settles, goes_on, goes_on_here}
@@ -18,12 +18,12 @@ run_beside-requires-clause-few g c κs lives =
     let book = s.between.count in
     let some = s.rounds.some in
     let few = s.rounds.few in
-    let same : length c.replace-tasks.result.items ≡ length c.args.self.now.tasks.items = ap (λ (v : Vec Task Global). length v.items) c.replace-tasks.ensures.value in
+    let same : length c.replace-tasks.result.items ≡ length c.args.self.now.tasks.items = ap (λ (v : Vec HostTask Global). length v.items) c.replace-tasks.ensures.value in
     omega arith
 
 pub run_beside-requires-clause-tasks : goal.run_beside-requires-clause-tasks
 run_beside-requires-clause-tasks g c κs lives =
-    subst (λ (v : Vec Task Global). AreTasksOf c.args.self.now.net v.items) (sym c.replace-tasks.ensures.value) (all_tasks c.args.self.now c.requires.stands.0 c.requires.stands.1)
+    subst (λ (v : Vec HostTask Global). AreTasksOf c.args.self.now.net v.items) (sym c.replace-tasks.ensures.value) (all_tasks c.args.self.now c.requires.stands.0 c.requires.stands.1)
 
 pub settle-requires : goal.settle-requires
 settle-requires g c =
@@ -44,12 +44,12 @@ round_in_place-requires-clause-few g c =
     let count = s.count in
     let book = s.between.count in
     let few = s.rounds.few in
-    let same : length c.replace-tasks.result.items ≡ length c.args.self.now.tasks.items = ap (λ (v : Vec Task Global). length v.items) c.replace-tasks.ensures.value in
+    let same : length c.replace-tasks.result.items ≡ length c.args.self.now.tasks.items = ap (λ (v : Vec HostTask Global). length v.items) c.replace-tasks.ensures.value in
     omega arith
 
 pub round_in_place-requires-clause-tasks : goal.round_in_place-requires-clause-tasks
 round_in_place-requires-clause-tasks g c =
-    subst (λ (v : Vec Task Global). AreTasksOf c.args.self.now.net v.items) (sym c.replace-tasks.ensures.value) (all_tasks c.args.self.now c.requires.stands.0 c.requires.stands.1)
+    subst (λ (v : Vec HostTask Global). AreTasksOf c.args.self.now.net v.items) (sym c.replace-tasks.ensures.value) (all_tasks c.args.self.now c.requires.stands.0 c.requires.stands.1)
 
 pub returns-then-threads-lt2-clause-turns : goal.returns-then-threads-lt2-clause-turns
 returns-then-threads-lt2-clause-turns g c = λ w stands.
