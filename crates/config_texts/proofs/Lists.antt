@@ -1,7 +1,8 @@
 -- lists of which each member has something
 use Rattle.std.proofs.Common.{IfOk, IfSome, List, None, Option, Some, [], option_to_list, slice_get, suc, unwrap_or, zero, ℕ, ◌++◌, ◌∷◌}
 use Rattle.std.specs.List.{AllByRecursion}
-use Rattle.shd_config.proofs.Walks.{Read, then_has}
+use Rattle.sim_base.proofs.RefusalLemmas.{then_has}
+use Rattle.shd_config.proofs.Walks.{Read}
 use Rattle.shd_config.specs.Steps.{through}
 
 module _ {X : Type 0} (P : X → Type 0) where

@@ -9,7 +9,7 @@ use Rattle.config_texts.proofs.Lists.{all_pushed, or_none, through_members}
 use Rattle.config_texts.proofs.Trees.{PairIsText, SaidIsText, merged_text}
 use Rattle.shown_config.proofs.plain.SplitWords.{words_has}
 use Rattle.config_texts.specs.Texts.{AreUtf8, HasTexts, HostIsText, ProcessIsText, VariableIsText}
-use Rattle.shd_config.proofs.Walks.{below_has, checked_has, kept_or_read, needed_has, optional_has, then_all, then_has, valued_has}
+use Rattle.shd_config.proofs.Walks.{below_has, checked_has, kept_or_read, needed_has, optional_has, valued_has}
 use Rattle.shd_config.specs.Config.{config, experimental_at, general_or, is_passed_over, kept, merged_config, new_root, root, root_key, root_of, root_row, wrong_merge}
 use Rattle.shd_config.specs.General.{general_at}
 use Rattle.shd_config.specs.Host.{host_at, host_key, host_of, host_row, hosts_at, hosts_row, new_host, options_at, settled}
@@ -30,6 +30,7 @@ use Rattle.sim_base.specs.Limits.{most_hosts, most_processes, most_text_bytes}
 use Rattle.sim_base.specs.Refusals.{◌>>=◌}
 use Rattle.sim_base.specs.Units.{max_u32}
 use Rattle.sim_base.specs.declared.time.Time.{Time}
+use Rattle.sim_base.proofs.RefusalLemmas.{then_has, then_all}
 use Rattle.yaml_merge.specs.Merge.{merged}
 use Rattle.yaml_merge.specs.Plain.{items_in, line_of, pairs_in, text_in}
 use Rattle.yaml_merge.specs.declared.fault.MergeFault.{MergeFault}

@@ -2,6 +2,7 @@
 use Rattle.std.proofs.Common.{◌≡◌, ◌∙◌, ℕ, ◌≤◌, Bool, true, false, List, [], ◌∷◌, ◌++◌, length, map, Option, Some, None, is_some, Result, Ok, Err, IfOk, IfSome, refl, sym, ap, subst, append_assoc, append-nil, codes}
 use Rattle.std.specs.Option.{option_map}
 use Rattle.sim_base.specs.Refusals.{◌>>=◌}
+use Rattle.sim_base.proofs.RefusalLemmas.{then_has, then_all, weaker}
 use Rattle.yaml_tree.specs.Said.{Said}
 use Rattle.yaml_tree.specs.Said.Said.{null, text, unknown, sequence, mapping, with_item, with_pair}
 use Rattle.yaml_merge.specs.Merge.{keys_of, merged}
@@ -27,7 +28,7 @@ use Rattle.shd_config.specs.declared.key.Key.TheVariants as keys
 use Rattle.shd_config.specs.declared.options.HostOptions.{HostOptions}
 use Rattle.shd_config.specs.declared.overrides.Overrides.{Overrides}
 use Rattle.shd_config.specs.declared.reading.RootDraft.{RootDraft}
-use Rattle.shd_config.proofs.Walks.{then_has, then_all, checked_has, below_has, valued_has, needed_has, weaker, kept_or_read}
+use Rattle.shd_config.proofs.Walks.{checked_has, below_has, valued_has, needed_has, kept_or_read}
 use Rattle.run_plan.proofs.NameCounts.{copies}
 use Rattle.run_plan.proofs.TreeKeys.{IsOnce, AreOnce, keys_once, plain_kind, plain_once}
 use Rattle.run_plan.proofs.MergedKeys.{merged_once}

@@ -4,7 +4,7 @@ use Rattle.std.specs.Prelude.{Result, Ok, Err, Some, None, if◌then◌else◌, 
 use Rattle.std.proofs.lemmas.Bool.{leb-true, ltb-true}
 use Rattle.base_texts.specs.Quantity.{time_of_text}
 use Rattle.sim_base.specs.declared.time.Time.{Time}
-use Rattle.sim_base.specs.Refusals.{◌>>=◌, or_refuse}
+use Rattle.sim_base.specs.Refusals.{or_refuse}
 use Rattle.command_line.specs.Asked.{asked, Chosen, chosen, subject_of, seed_of, parallelism_of, data_directory_of, stop_of, budget_of, number_within, is_decimal, if_within, read_option, some_text, stop_time_of}
 use Rattle.command_line.specs.Asked.Chosen.{config, self_load, capture}
 use Rattle.command_line.specs.Command.{found, config_of, value_of}
@@ -18,12 +18,8 @@ use Rattle.command_line.specs.declared.name.OptionName.{OptionName}
 use Rattle.shd_config.specs.Limits.{IsSomeText, MayStop, MayOverride}
 use Rattle.std.specs.Str.Parse.{digits_value}
 use Rattle.sim_base.specs.Units.{latest_time}
+use Rattle.sim_base.proofs.RefusalLemmas.{bind_ok_by}
 use Rattle.run_plan.specs.InRange.{IsInRange, overrides_of}
-
--- what a step gave that was gone on from
-then_ok : {A B E : Type 0} (first : Result A E) (next : A → Result B E) (b : B) (P : Type 0) → ((a : A) → first ≡ Ok a → next a ≡ Ok b → P) → (first >>= next) ≡ Ok b → P
-then_ok (Ok a) next b P h e = h a refl e
-then_ok (Err refusal) next b P h e = cc
 
 within : (n hosts : ℕ) (fault : WordsFault) (low high : Bool) → nat_le 2 n ≡ low → nat_le n 4096 ≡ high → or_refuse (if low && high then Some n else None) fault ≡ Ok hosts → (2 ≤ hosts) × (hosts ≤ 4096)
 within n hosts fault true true l h e = let same : n ≡ hosts = cc in subst (λ (m : ℕ). (2 ≤ m) × (m ≤ 4096)) same (leb-true 2 n l, leb-true n 4096 h)
@@ -37,8 +33,9 @@ number_range text hosts fault false d e = cc
 
 subject_range : (choice : Chosen) (s : Subject) → subject_of choice ≡ Ok s → IsInRange s
 subject_range (config name) s e = let same : File name ≡ s = cc in subst IsInRange same tt
-subject_range (self_load size) s e = then_ok (or_refuse (number_within 2 4096 size) _) (λ hosts. Ok (SelfLoad hosts)) s (IsInRange s)
-    (λ hosts h k. let same : SelfLoad hosts ≡ s = cc in subst IsInRange same (number_range size hosts _ (is_decimal size) refl h)) e
+subject_range (self_load size) s e =
+    bind_ok_by (or_refuse (number_within 2 4096 size) _) (λ hosts. Ok (SelfLoad hosts)) s (IsInRange s) e
+    (λ hosts h k. let same : SelfLoad hosts ≡ s = cc in subst IsInRange same (number_range size hosts _ (is_decimal size) refl h))
 subject_range (capture name) s e = let same : Capture name ≡ s = cc in subst IsInRange same tt
 
 -- ---- what is overridden
@@ -91,14 +88,14 @@ pub record AreInRange (a : Asked) : Type 0 where
 pub asked_in_range : (words : List (List ℕ)) (a : Asked) → asked words ≡ Ok a → AreInRange a
 unfolding asked
 asked_in_range words a e =
-    then_ok (found words) _ a (AreInRange a) (λ rows r0 e0.
-    then_ok (chosen (config_of rows) (value_of option.SelfLoad rows) (value_of option.ReadCapture rows)) _ a (AreInRange a) (λ choice r1 e1.
-    then_ok (seed_of rows) _ a (AreInRange a) (λ seed r2 e2.
-    then_ok (parallelism_of rows) _ a (AreInRange a) (λ parallelism r3 e3.
-    then_ok (data_directory_of rows) _ a (AreInRange a) (λ directory r4 e4.
-    then_ok (stop_of rows) _ a (AreInRange a) (λ stop r5 e5.
-    then_ok (budget_of rows) _ a (AreInRange a) (λ budget r6 e6.
-    then_ok (subject_of choice) _ a (AreInRange a) (λ subject r7 e7.
+    bind_ok_by (found words) _ a (AreInRange a) e (λ rows r0 e0.
+    bind_ok_by (chosen (config_of rows) (value_of option.SelfLoad rows) (value_of option.ReadCapture rows)) _ a (AreInRange a) e0 (λ choice r1 e1.
+    bind_ok_by (seed_of rows) _ a (AreInRange a) e1 (λ seed r2 e2.
+    bind_ok_by (parallelism_of rows) _ a (AreInRange a) e2 (λ parallelism r3 e3.
+    bind_ok_by (data_directory_of rows) _ a (AreInRange a) e3 (λ directory r4 e4.
+    bind_ok_by (stop_of rows) _ a (AreInRange a) e4 (λ stop r5 e5.
+    bind_ok_by (budget_of rows) _ a (AreInRange a) e5 (λ budget r6 e6.
+    bind_ok_by (subject_of choice) _ a (AreInRange a) e6 (λ subject r7 e7.
     let same_subject : subject ≡ a.subject = ap (λ (r : Result Asked WordsFault). subject_in subject r) e7 in
     let same_directory : directory ≡ a.data_directory = ap (λ (r : Result Asked WordsFault). directory_in directory r) e7 in
     let same_stop : stop ≡ a.stop_time = ap (λ (r : Result Asked WordsFault). stop_in stop r) e7 in
@@ -108,5 +105,4 @@ asked_in_range words a e =
         directory = subst (λ (o : Option Text). IfSome o IsSomeText) same_directory (read_range IsSomeText option.DataDirectory some_text (value_of option.DataDirectory rows) directory (λ t. some_text_by t (nat_lt 0 (length t)) refl) r4);
         stop = subst (λ (o : Option Time). IfSome o MayStop) same_stop (read_range MayStop option.StopTime stop_time_of (value_of option.StopTime rows) stop (λ t. stop_by (time_of_text t)) r5);
       };
-    })
-    e6) e5) e4) e3) e2) e1) e0) e
+    }))))))))

@@ -4,6 +4,7 @@ use Rattle.std.specs.Prelude.{if◌then◌else◌}
 use Rattle.std.specs.Cmp.Lexicographic.{pointwise, same_text}
 use Rattle.std.proofs.lemmas.Bool.{false≢true}
 use Rattle.sim_base.specs.Refusals.{◌>>=◌}
+use Rattle.sim_base.proofs.RefusalLemmas.{then_has, weaker}
 use Rattle.yaml_tree.specs.Said.{Said}
 use Rattle.yaml_tree.specs.Said.Said.{null, text, unknown, sequence, mapping, with_item, with_pair}
 use Rattle.yaml_merge.specs.Rows.{with_pairs}
@@ -76,10 +77,6 @@ module _ (name : List ℕ) where
     once : IsOnce name merged
     count : copies name (keys_of merged) ≤ most own rows
 
-  then_keeps : (P Q : Said → Type 0) (first : Result Said MergeFault) (next : Said → Result Said MergeFault) → IfOk first P → ((s : Said) → P s → IfOk (next s) Q) → IfOk (first >>= next) Q
-  then_keeps P Q (Ok s) next h k = k s h
-  then_keeps P Q (Err f) next h k = tt
-
   below_keeps : (P : Said → Type 0) (place : List ℕ) (value : Said) (read : Result Said MergeFault) → IfOk read P → IfOk (below place value read) P
   below_keeps P place value (Ok s) h = h
   below_keeps P place value (Err f) h = tt
@@ -111,7 +108,7 @@ module _ (name : List ℕ) where
         → IfOk (if t && not m then Err (record { line = line; path = key }) else (below key value read >>= λ v. Ok (if t then with_pairs b (new_pairs (keys_of whole) (sources v)) else with_pair b line key v)))
         (Keeps own (with_pair before line key value))
     pair_keeps read true true is k =
-        then_keeps (IsOnce name) (Keeps own (with_pair before line key value)) (below key value read) _ (below_keeps (IsOnce name) key value read k)
+        then_has (IsOnce name) (Keeps own (with_pair before line key value)) (below key value read) _ (below_keeps (IsOnce name) key value read k)
         (λ v once.
         let new = new_pairs (keys_of whole) (sources v) in
         let count = count_merged own whole before b line key value v is_own is h.count in
@@ -121,14 +118,10 @@ module _ (name : List ℕ) where
         })
     pair_keeps read true false is k = tt
     pair_keeps read false m is k =
-        then_keeps (IsOnce name) (Keeps own (with_pair before line key value)) (below key value read) _ (below_keeps (IsOnce name) key value read k)
+        then_has (IsOnce name) (Keeps own (with_pair before line key value)) (below key value read) _ (below_keeps (IsOnce name) key value read k)
         (λ v once.
         let count = count_kept own whole before b line key value rest is_own parts h.count in
         record { once = (omega (arith, count, few), h.once, once); count = count })
-
-  weaker : (own : Bool) (rows : Said) (read : Result Said MergeFault) → IfOk read (Keeps own rows) → IfOk read (IsOnce name)
-  weaker own rows (Ok s) h = h.once
-  weaker own rows (Err f) h = tt
 
   rows_keep : (own : Bool) (whole s : Said) (rest : List (List ℕ)) → has name (keys_of whole) ≡ own → keys_of s ++ rest ≡ keys_of whole → IsOfOneKind s → IsOnce name s → IsOnce merge_key s
       → IfOk (merged_rows whole s) (Keeps own s)
@@ -138,18 +131,18 @@ module _ (name : List ℕ) where
   rows_keep own whole (sequence line) rest is parts kind h k = record { once = tt; count = omega arith }
   rows_keep own whole (mapping line) rest is parts kind h k = record { once = tt; count = omega arith }
   rows_keep own whole (with_item before value) rest is parts kind h k =
-      then_keeps (Keeps own before) (Keeps own (with_item before value)) (merged_rows whole before) _
+      then_has (Keeps own before) (Keeps own (with_item before value)) (merged_rows whole before) _
       (rows_keep own whole before (keys_of whole) is (ap (λ (ks : List (List ℕ)). ks ++ keys_of whole) kind.0) kind.1 h.0 k.0)
-      (λ b kept. then_keeps (IsOnce name) (Keeps own (with_item before value)) (below (item_place (item_count before)) value (merged_rows value value)) _
+      (λ b kept. then_has (IsOnce name) (Keeps own (with_item before value)) (below (item_place (item_count before)) value (merged_rows value value)) _
       (below_keeps (IsOnce name) (item_place (item_count before)) value (merged_rows value value)
-      (weaker (has name (keys_of value)) value (merged_rows value value) (rows_keep (has name (keys_of value)) value value [] refl (append-nil (keys_of value)) kind.2 h.1 k.1)))
+      (weaker (Keeps (has name (keys_of value)) value) (IsOnce name) (merged_rows value value) (rows_keep (has name (keys_of value)) value value [] refl (append-nil (keys_of value)) kind.2 h.1 k.1) (λ s keeps. keeps.once)))
       (λ v once. record { once = (kept.once, once); count = omega arith }))
   rows_keep own whole (with_pair before line key value) rest is parts kind h k =
       let split : keys_of before ++ (key ∷ rest) ≡ keys_of whole = sym (append_assoc (keys_of before) (key ∷ []) rest) ∙ parts in
-      then_keeps (Keeps own before) (Keeps own (with_pair before line key value)) (merged_rows whole before) _ (rows_keep own whole before (key ∷ rest) is split kind.0 h.1 k.1)
+      then_has (Keeps own before) (Keeps own (with_pair before line key value)) (merged_rows whole before) _ (rows_keep own whole before (key ∷ rest) is split kind.0 h.1 k.1)
       (λ b kept. pair_keeps own whole before b line key value rest is split (most_few own before line key value h.0 k.0) kept (merged_rows value value) (is_merge_key key) (may_merge value) refl
-      (weaker (has name (keys_of value)) value (merged_rows value value) (rows_keep (has name (keys_of value)) value value [] refl (append-nil (keys_of value)) kind.1 h.2 k.2)))
+      (weaker (Keeps (has name (keys_of value)) value) (IsOnce name) (merged_rows value value) (rows_keep (has name (keys_of value)) value value [] refl (append-nil (keys_of value)) kind.1 h.2 k.2) (λ s keeps. keeps.once)))
 
   pub merged_once : (tree : Said) → IsOfOneKind tree → IsOnce name tree → IsOnce merge_key tree → IfOk (merged tree) (IsOnce name)
   unfolding merged
-  merged_once tree kind h k = weaker (has name (keys_of tree)) tree (merged_rows tree tree) (rows_keep (has name (keys_of tree)) tree tree [] refl (append-nil (keys_of tree)) kind h k)
+  merged_once tree kind h k = weaker (Keeps (has name (keys_of tree)) tree) (IsOnce name) (merged_rows tree tree) (rows_keep (has name (keys_of tree)) tree tree [] refl (append-nil (keys_of tree)) kind h k) (λ s keeps. keeps.once)

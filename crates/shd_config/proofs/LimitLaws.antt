@@ -6,6 +6,7 @@ use Rattle.std.proofs.lemmas.List.Elements.{All-nil, All-map, All-weaker}
 use Rattle.sim_base.specs.Limits.{most_hosts, most_processes, most_text_bytes}
 use Rattle.sim_base.specs.Units.{max_u32, latest_time}
 use Rattle.sim_base.specs.declared.time.Time.{Time}
+use Rattle.sim_base.proofs.RefusalLemmas.{then_has, then_all, weaker}
 use Rattle.yaml_tree.specs.Said.{Said}
 use Rattle.yaml_merge.specs.Merge.{merged}
 use Rattle.yaml_merge.specs.Plain.{line_of}
@@ -32,7 +33,7 @@ use Rattle.shd_config.specs.Process.{process_at, process_in, process_item, proce
 use Rattle.shd_config.specs.Network.{network_at}
 use Rattle.shd_config.specs.Host.{options_at, new_host, host_key, host_row, finished_host, host_of, host_at, hosts_row, hosts_at, settled}
 use Rattle.shd_config.specs.Config.{root, new_root, experimental_at, root_key, root_row, general_or, finished_root, root_of, merged_config, is_passed_over}
-use Rattle.shd_config.proofs.Walks.{Read, then_has, then_all, checked_has, below_has, needed_has, given_has, optional_has, weaker, kept_or_read, through_keeps, IsMore, AreMore, through_pushes}
+use Rattle.shd_config.proofs.Walks.{Read, checked_has, below_has, needed_has, given_has, optional_has, kept_or_read, through_keeps, IsMore, AreMore, through_pushes}
 use Rattle.shd_config.specs.Limits.{MayStop, IsSomeText, HasFewProcesses, HasFewBytes, HaveFewBytes, MayOverride, IsWithinLimits}
 
 -- ---- values
@@ -247,8 +248,3 @@ module _ (o : Overrides) (may : MayOverride o) where
   pub answers_within : (empty : Bool) (tree : Said) (result : Result Config ConfigError) → Gives result (merged_config o empty tree) → IfOk result IsWithinLimits
   answers_within empty tree (Ok c) h = subst (λ (r : Read Config). IfOk r IsWithinLimits) h (merged_config_has empty tree)
   answers_within empty tree (Err e) h = tt
-
--- one of the limits
-pub part : (P Q : Config → Type 0) (result : Result Config ConfigError) → IfOk result P → ((c : Config) → P c → Q c) → IfOk result Q
-part P Q (Ok c) h k = k c h
-part P Q (Err e) h k = tt

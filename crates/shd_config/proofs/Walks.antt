@@ -3,6 +3,7 @@ use Rattle.std.specs.Prelude.{if◌then◌else◌}
 use Rattle.std.proofs.Common.{◌≡◌, ℕ, ◌+◌, ◌&&◌, Bool, true, false, List, [], ◌∷◌, ◌++◌, length, All, Option, Some, None, IfSome, IfOk, Result, Ok, Err, refl, sym, ap, subst, ◌∙◌, arith, length-append}
 use Rattle.std.proofs.lemmas.List.Elements.{All-push}
 use Rattle.sim_base.specs.Refusals.{◌>>=◌}
+use Rattle.sim_base.proofs.RefusalLemmas.{then_has, some_has}
 use Rattle.yaml_merge.specs.Plain.{is_null}
 use Rattle.yaml_merge.specs.declared.plain.Pair.{Pair}
 use Rattle.shd_config.specs.declared.fault.ConfigKind.{ConfigKind}
@@ -12,16 +13,6 @@ use Rattle.shd_config.specs.Steps.{needed, valued, checked, below, through, give
 -- what reading gives: a value, or the first fault
 abbrev pub Read : Type 0 → Type 0
 Read A = Result A ConfigFault
-
--- what a step gives has this, and what follows has that
-pub then_has : {A B : Type 0} (P : A → Type 0) (Q : B → Type 0) (first : Read A) (next : A → Read B) → IfOk first P → ((a : A) → P a → IfOk (next a) Q) → IfOk (first >>= next) Q
-then_has P Q (Ok a) next h k = k a h
-then_has P Q (Err f) next h k = tt
-
--- of a step nothing is known
-pub then_all : {A B : Type 0} (Q : B → Type 0) (first : Read A) (next : A → Read B) → ((a : A) → IfOk (next a) Q) → IfOk (first >>= next) Q
-then_all Q (Ok a) next k = k a
-then_all Q (Err f) next k = tt
 
 pub checked_has : {B : Type 0} (Q : B → Type 0) (kind : ConfigKind) (p : Pair) (t : Bool) (next : Unit {0} → Read B) → (t ≡ true → IfOk (next tt) Q) → IfOk (checked kind p t >>= next) Q
 checked_has Q kind p true next h = h refl
@@ -39,10 +30,6 @@ pub needed_has : {A : Type 0} (P : A → Type 0) (key : List ℕ) (line : ℕ) (
 needed_has P key line None h = tt
 needed_has P key line (Some a) h = h
 
-some_has : {A : Type 0} (P : A → Type 0) (read : Read A) → IfOk read P → IfOk (read >>= λ x. Ok (Some x)) (λ o. IfSome o P)
-some_has P (Ok a) h = h
-some_has P (Err f) h = tt
-
 optional_by : {A : Type 0} (P : A → Type 0) (null : Bool) (read : Read A) → IfOk read P → IfOk (if null then Ok None else (read >>= λ x. Ok (Some x))) (λ o. IfSome o P)
 optional_by P true read h = tt
 optional_by P false read h = some_has P read h
@@ -52,10 +39,6 @@ given_has P b p read h = optional_by P (b && is_null p.value) read h
 
 pub optional_has : {A : Type 0} (P : A → Type 0) (p : Pair) (read : Read A) → IfOk read P → IfOk (optional p read) (λ o. IfSome o P)
 optional_has P p read h = optional_by P (is_null p.value) read h
-
-pub weaker : {A : Type 0} (P Q : A → Type 0) (read : Read A) → IfOk read P → ((a : A) → P a → Q a) → IfOk read Q
-weaker P Q (Ok a) h k = k a h
-weaker P Q (Err f) h k = tt
 
 -- what is passed over stays as it was
 pub kept_or_read : {S : Type 0} (P : S → Type 0) (passed : Bool) (before : S) (read : Read S) → P before → IfOk read P → IfOk (if passed then Ok before else read) P

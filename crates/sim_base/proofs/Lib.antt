@@ -1,3 +1,4 @@
 pub mod BookLemmas
 pub mod DrawsLemmas
 pub mod PortLemmas
+pub mod RefusalLemmas

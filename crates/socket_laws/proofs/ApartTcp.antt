@@ -1,11 +1,12 @@
 -- the acts on TCP sockets keep those that are bound apart
-use Rattle.std.proofs.Common.{◌≡◌, ℕ, ◌==◌, List, [], ◌∷◌, Bool, true, false, if◌then◌else◌, Option, Some, None, slice_get, Result, Ok, Err, refl, sym, ap, subst, ◌∙◌}
+use Rattle.std.proofs.Common.{◌≡◌, ℕ, ◌==◌, List, [], ◌∷◌, Bool, true, false, if◌then◌else◌, Option, Some, None, slice_get, Ok, refl, sym, ap, subst, ◌∙◌}
 use Rattle.std.specs.Prelude.{ℤ}
 use Rattle.sim_base.specs.declared.address.Addr.{Addr}
 use Rattle.sim_base.specs.declared.errno.Errno.TheVariants.{Ebadf, Eaddrinuse, Eaddrnotavail}
 use Rattle.sim_base.specs.declared.time.Time.{Time}
 use Rattle.sim_base.specs.Addresses.{any, is_taken, meets, with_port, at_free_port}
 use Rattle.sim_base.specs.Refusals.{◌>>=◌, ◌>>◌, refuse_if, or_refuse}
+use Rattle.sim_base.proofs.RefusalLemmas.{bind_ok, then_ok}
 use Rattle.sock_udp.specs.Socket.{or_else}
 use Rattle.sock_tcp.specs.connection.Begin.{begin}
 use Rattle.sock_tcp.specs.connection.Process.{closes}
@@ -122,15 +123,6 @@ unfolding alarm_comes
 alarm_kept now k serial t w =
     acts_kept k (socket_expires now k serial)
     (λ s v. either_as (s.serial == serial) s _ _ (record_as now k _ s v) (timer_expires_as now k (kept_timer serial s.timers) s v)) t w
-
--- a call that is made leaves what is told
-pub bind_ok : {A B E : Type 0} (r : Result A E) (f : A → Result B E) (b : B) → (r >>= f) ≡ Ok b → (a : A) × ((r ≡ Ok a) × (f a ≡ Ok b))
-bind_ok (Ok a) f b e = (a, (refl, e))
-bind_ok (Err x) f b e = cc
-
-pub then_ok : {A B E : Type 0} (r : Result A E) (s : Result B E) (b : B) → (r >> s) ≡ Ok b → s ≡ Ok b
-then_ok (Ok a) s b e = e
-then_ok (Err x) s b e = cc
 
 -- accept(2)
 accepts_tcp_kept : (r : Tcb) (rest : Listen) (k : ℕ) (t : SocketsRecord) → Kept t (placed r (changes_at k (given_up r rest) t)).1

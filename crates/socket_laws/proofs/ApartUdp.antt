@@ -8,6 +8,7 @@ use Rattle.sim_base.specs.declared.packet.Packet.{Packet}
 use Rattle.sim_base.specs.Addresses.{Surroundings, any, is_taken, meets, at_free_port}
 use Rattle.sim_base.specs.Packet.{max_datagram}
 use Rattle.sim_base.specs.Refusals.{◌>>=◌, ◌>>◌, refuse_if, or_refuse}
+use Rattle.sim_base.proofs.RefusalLemmas.{bind_ok, then_ok}
 use Rattle.sock_udp.specs.declared.datagram.Datagram.{Datagram}
 use Rattle.sock_udp.specs.Socket.{UdpState, new_socket, arrive, bind, connect, send, or_else, reach, address_to_bind, address_to_use, address_to_connect, address_and_destination, packet_between, limit}
 use Rattle.sock_udp.specs.SocketLaws.{address_to_bind_is_taken, address_to_use_is_taken}
@@ -20,7 +21,7 @@ use Rattle.host_sockets.specs.Udp.{socket_in, udp_in, with_udp, udp_place, new_u
 use Rattle.socket_laws.specs.Histories.{left_by}
 use Rattle.socket_laws.specs.Apart.{AreApart, BoundApart}
 use Rattle.socket_laws.proofs.Apart.{apart_loses, loses_set, loses_unbound, loses_put, IsFree, apart_set, first_of_ends, free_among}
-use Rattle.socket_laws.proofs.ApartTcp.{Kept, kept_all, bind_ok, then_ok}
+use Rattle.socket_laws.proofs.ApartTcp.{Kept, kept_all}
 
 -- a socket that is made or closed is unbound
 pub makes_kept : (t : SocketsRecord) → Kept t (new_udp t).1

@@ -9,6 +9,7 @@ use Rattle.sim_base.specs.declared.errno.Errno.{Errno}
 use Rattle.sim_base.specs.declared.errno.Errno.TheVariants.{Eaddrinuse, Eaddrnotavail, Einval}
 use Rattle.sim_base.specs.declared.packet.Packet.{Packet}
 use Rattle.sim_base.specs.declared.time.Time.{Time}
+use Rattle.sim_base.proofs.RefusalLemmas.{bind_ok, then_ok}
 use Rattle.sock_udp.specs.Socket.{UdpState, or_else, address_to_bind, bind, reach, address_to_connect, connect, address_and_destination, packet_between, send}
 use Rattle.tcp_laws.proofs.Tests.{by_test}
 use Rattle.host_wants.specs.declared.error.Refusal.{Refusal}
@@ -23,7 +24,7 @@ use Rattle.host_sockets.specs.Connecting.{connect_asked}
 use Rattle.socket_laws.specs.Apart.{end_of, end_at, tcp_end, AreHere, BoundHere}
 use Rattle.socket_laws.specs.Histories.{SocketsAct, left_by, sockets_acted, sockets_after, sockets_of}
 use Rattle.socket_laws.proofs.Apart.{other, here}
-use Rattle.socket_laws.proofs.ApartTcp.{Kept, bind_ok, then_ok}
+use Rattle.socket_laws.proofs.ApartTcp.{Kept}
 use Rattle.socket_laws.proofs.ApartUdp.{there_of, errno_ok, state_ok, send_uses}
 use Rattle.socket_laws.proofs.ApartActs.{acted_kept, by_binding}
 use Rattle.socket_laws.proofs.LivePairs.{left_asked}

@@ -7,6 +7,7 @@ use Rattle.sim_base.specs.declared.packet.Packet.{Packet}
 use Rattle.sim_base.specs.declared.time.Time.{Time}
 use Rattle.sim_base.specs.Addresses.{any, at_free_port}
 use Rattle.sim_base.specs.Refusals.{◌>>=◌, ◌>>◌, refuse_if, or_refuse}
+use Rattle.sim_base.proofs.RefusalLemmas.{then_ok}
 use Rattle.sock_udp.specs.Socket.{or_else}
 use Rattle.sock_tcp.specs.declared.segment.header.Header.{Header}
 use Rattle.sock_tcp.specs.segment.State.{is_over}
@@ -31,7 +32,6 @@ use Rattle.host_sockets.specs.Arriving.{hears_in}
 use Rattle.host_sockets.specs.Binding.{bind_begins, bind_begun, bind_asked, end_to_use, listening, listen_begun, listen_asked}
 use Rattle.host_sockets.specs.Closing.{unheld, closes_in, closed, closes_tcp}
 use Rattle.host_sockets.specs.Connecting.{opens}
-use Rattle.socket_laws.proofs.ApartTcp.{then_ok}
 
 abbrev pub ListensBound : TcpSocket → Type 0
 ListensBound s = (l : Listen) → s.listen ≡ Some l → s.bound ≡ Some l.local

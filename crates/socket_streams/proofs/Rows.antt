@@ -12,6 +12,7 @@ use Rattle.sim_base.specs.declared.packet.Load.{Load}
 use Rattle.sim_base.specs.declared.packet.Load.TheVariants.{Udp, Tcp}
 use Rattle.sim_base.specs.declared.packet.Packet.{Packet}
 use Rattle.sim_base.specs.declared.time.Time.{Time}
+use Rattle.sim_base.proofs.RefusalLemmas.{then_ok}
 use Rattle.host_fds.specs.declared.rises.Rises.{Rises}
 use Rattle.sock_udp.specs.Socket.{UdpState}
 use Rattle.sock_tcp.specs.declared.connection.effects.Shut.{Shut}
@@ -45,7 +46,6 @@ use Rattle.host_sockets.specs.Records.{own_record, kept_records, records_at, rec
 use Rattle.socket_laws.specs.Histories.{left_by}
 use Rattle.socket_laws.proofs.LivePairs.{left_asked, left_after, left_told, Taken, taken_row, after_ok, change_ok, left_opens}
 use Rattle.socket_laws.proofs.SourceEnds.{first_ok, next_ok, connect_source, connect_from, connect_to}
-use Rattle.socket_laws.proofs.ApartTcp.{then_ok}
 use Rattle.socket_laws.proofs.HereActs.{IsBoundHere, used_here, bound_here}
 use Rattle.socket_laws.proofs.Sums.{position_holds}
 use Rattle.socket_streams.specs.Records.{packets_of, exchange_of}

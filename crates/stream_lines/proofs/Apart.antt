@@ -1,5 +1,5 @@
 -- No two of the addresses of hosts are one.
-use Rattle.std.proofs.Common.{◌≡◌, ℕ, zero, suc, ◌+◌, ◌%◌, ◌<◌, ◌≤◌, ◌==◌, Bool, true, false, not, ◌&&◌, ◌||◌, List, [], ◌∷◌, ◌++◌, map, Option, Some, None, ◌⊎◌, inl, inr, slice_get, Result, Ok, Err, refl, sym, ap, subst, ◌∙◌, append-nil, arith, eqb-true, eq-eqb}
+use Rattle.std.proofs.Common.{◌≡◌, ℕ, zero, suc, ◌+◌, ◌%◌, ◌<◌, ◌≤◌, ◌==◌, Bool, true, false, not, ◌&&◌, ◌||◌, List, [], ◌∷◌, ◌++◌, map, Option, Some, None, ◌⊎◌, inl, inr, slice_get, Ok, refl, sym, ap, subst, ◌∙◌, append-nil, arith, eqb-true, eq-eqb}
 use Rattle.std.specs.List.{AllByRecursion}
 use Rattle.std.specs.Option.{option_map_or, option_to_list}
 use Rattle.std.proofs.lemmas.Bool.{false≢true, false_from_ne_true}
@@ -7,6 +7,7 @@ use Rattle.std.proofs.lemmas.Option.{none-some}
 use Rattle.sim_base.specs.Addresses.{has_host, is_same_ip}
 use Rattle.sim_base.specs.Refusals.{◌>>=◌, or_refuse, refuse_if}
 use Rattle.sim_base.specs.declared.address.Ip.{Ip}
+use Rattle.sim_base.proofs.RefusalLemmas.{bind_ok_by}
 use Rattle.gml_graph.specs.declared.graph.Node.{Node}
 use Rattle.shd_config.specs.declared.config.HostConfig.{HostConfig}
 use Rattle.run_plan.specs.Addresses.{is_open, given_addresses, AreAddressesFrom, AreAddresses, first_address}
@@ -89,10 +90,6 @@ first_new : (earlier : List Ip) (host : Option Ip) (hosts : List (Option Ip)) �
 first_new earlier None hosts h more = subst (λ (ips : List Ip). AreNew ips hosts) (append-nil earlier) more
 first_new earlier (Some ip) hosts h more = (h, more)
 
-then_ok : {A B E : Type 0} (first : Result A E) (next : A → Result B E) (b : B) (P : Type 0) → ((a : A) → first ≡ Ok a → next a ≡ Ok b → P) → (first >>= next) ≡ Ok b → P
-then_ok (Ok a) next b P h e = h a refl e
-then_ok (Err refusal) next b P h e = cc
-
 passed : {E : Type 0} (t : Bool) (refusal : E) (u : Unit {0}) → refuse_if t refusal ≡ Ok u → t ≡ false
 passed true refusal u e = cc
 passed false refusal u e = refl
@@ -100,12 +97,11 @@ passed false refusal u e = refl
 rates_tell : (file : List ℕ) (nodes : List Node) (earlier : List Ip) (h : HostConfig) (rates : Rates) → rates_of file nodes earlier h ≡ Ok rates → is_given_again earlier h ≡ false
 unfolding rates_of
 rates_tell file nodes earlier h rates e =
-    then_ok (or_refuse (node_of nodes h.network_node_id) (at_host file h UnknownNode)) _ rates (is_given_again earlier h ≡ false)
-    (λ node r0 e0. then_ok (or_refuse (rate_of h.bandwidth_up node.bandwidth_up) (at_host file h NoBandwidth)) _ rates (is_given_again earlier h ≡ false)
-    (λ up r1 e1. then_ok (or_refuse (rate_of h.bandwidth_down node.bandwidth_down) (at_host file h NoBandwidth)) _ rates (is_given_again earlier h ≡ false)
-    (λ down r2 e2. then_ok (refuse_if (is_given_again earlier h) (at_host file h DuplicateAddress)) _ rates (is_given_again earlier h ≡ false)
-    (λ u r3 e3. passed (is_given_again earlier h) (at_host file h DuplicateAddress) u r3)
-    e2) e1) e0) e
+    bind_ok_by (or_refuse (node_of nodes h.network_node_id) (at_host file h UnknownNode)) _ rates (is_given_again earlier h ≡ false) e
+    (λ node r0 e0. bind_ok_by (or_refuse (rate_of h.bandwidth_up node.bandwidth_up) (at_host file h NoBandwidth)) _ rates (is_given_again earlier h ≡ false) e0
+    (λ up r1 e1. bind_ok_by (or_refuse (rate_of h.bandwidth_down node.bandwidth_down) (at_host file h NoBandwidth)) _ rates (is_given_again earlier h ≡ false) e1
+    (λ down r2 e2. bind_ok_by (refuse_if (is_given_again earlier h) (at_host file h DuplicateAddress)) _ rates (is_given_again earlier h ≡ false) e2
+    (λ u r3 e3. passed (is_given_again earlier h) (at_host file h DuplicateAddress) u r3))))
 
 -- hosts that have rates are given different addresses
 all_new : (file : List ℕ) (nodes : List Node) (earlier : List Ip) (hosts : List HostConfig) (rates : List Rates) → rates_behind file nodes earlier hosts ≡ Ok rates → AreNew earlier (map (λ (h : HostConfig). h.ip_addr) hosts)
@@ -113,10 +109,9 @@ all_new file nodes earlier [] rates e = tt
 all_new file nodes earlier (h ∷ hosts) rates e =
     let behind = earlier ++ option_to_list h.ip_addr in
     let given = map (λ (x : HostConfig). x.ip_addr) hosts in
-    then_ok (rates_of file nodes earlier h) (λ (first : Rates). rates_behind file nodes behind hosts >>= λ rest. Ok (first ∷ rest)) rates (AreNew earlier (h.ip_addr ∷ given))
-    (λ first r0 e0. then_ok (rates_behind file nodes behind hosts) (λ (rest : List Rates). Ok (first ∷ rest)) rates (AreNew earlier (h.ip_addr ∷ given))
-    (λ rest r1 e1. first_new earlier h.ip_addr given (rates_tell file nodes earlier h first r0) (all_new file nodes behind hosts rest r1))
-    e0) e
+    bind_ok_by (rates_of file nodes earlier h) (λ (first : Rates). rates_behind file nodes behind hosts >>= λ rest. Ok (first ∷ rest)) rates (AreNew earlier (h.ip_addr ∷ given)) e
+    (λ first r0 e0. bind_ok_by (rates_behind file nodes behind hosts) (λ (rest : List Rates). Ok (first ∷ rest)) rates (AreNew earlier (h.ip_addr ∷ given)) e0
+    (λ rest r1 e1. first_new earlier h.ip_addr given (rates_tell file nodes earlier h first r0) (all_new file nodes behind hosts rest r1)))
 
 -- ---- all of them
 

@@ -6,6 +6,7 @@ use Rattle.std.proofs.lemmas.List.FromFn.{length-map-range_with_len}
 use Rattle.sim_base.specs.Limits.{most_hosts, most_ring_hosts}
 use Rattle.sim_base.specs.Units.{max_u32}
 use Rattle.sim_base.specs.declared.address.Ip.{Ip}
+use Rattle.sim_base.proofs.RefusalLemmas.{then_has, then_all, weaker}
 use Rattle.yaml_tree.specs.Said.{Said}
 use Rattle.yaml_merge.specs.Merge.{merged}
 use Rattle.yaml_merge.specs.Plain.{line_of}
@@ -29,7 +30,7 @@ use Rattle.shd_config.specs.Process.{processes_at}
 use Rattle.shd_config.specs.Network.{network_at}
 use Rattle.shd_config.specs.Host.{options_at, new_host, host_key, host_row, finished_host, host_of, host_at, hosts_row, hosts_at, settled}
 use Rattle.shd_config.specs.Config.{root, new_root, experimental_at, root_key, root_row, general_or, finished_root, root_of, merged_config, wrong_merge, config, is_passed_over}
-use Rattle.shd_config.proofs.Walks.{then_has, then_all, checked_has, below_has, needed_has, optional_has, weaker, kept_or_read, through_keeps, IsMore, AreMore, through_pushes}
+use Rattle.shd_config.proofs.Walks.{checked_has, below_has, needed_has, optional_has, kept_or_read, through_keeps, IsMore, AreMore, through_pushes}
 use Rattle.run_plan.specs.SelfLoad.{ring_host, self_load_config}
 use Rattle.run_plan.proofs.LimitLemmas.{each_ring_host}
 use Rattle.stream_lines.proofs.Walk.{IsForHost}

@@ -2,6 +2,7 @@
 use Rattle.std.specs.Prelude.{if◌then◌else◌}
 use Rattle.std.proofs.Common.{◌≡◌, ℕ, Bool, true, false, not, ◌&&◌, ◌||◌, List, [], ◌∷◌, ◌++◌, Result, Ok, Err, IfOk, refl, subst}
 use Rattle.sim_base.specs.Refusals.{◌>>=◌}
+use Rattle.sim_base.proofs.RefusalLemmas.{then_has}
 use Rattle.yaml_tree.specs.Said.{Said}
 use Rattle.yaml_tree.specs.Said.Said.{null, text, unknown, sequence, mapping, with_item, with_pair}
 use Rattle.yaml_merge.specs.Rows.{with_pairs}
@@ -74,10 +75,6 @@ with_pairs_free : (s : Said) (ps : List Pair) → IsFree s → AreFree ps → Is
 with_pairs_free s [] h k = h
 with_pairs_free s (p ∷ ps) h k = with_pairs_free (with_pair s p.line p.key p.value) ps (h, k.0, k.1) k.2
 
-then_free : (first : Result Said MergeFault) (next : Said → Result Said MergeFault) → IfOk first IsFree → ((s : Said) → IsFree s → IfOk (next s) IsFree) → IfOk (first >>= next) IsFree
-then_free (Ok s) next h k = k s h
-then_free (Err f) next h k = tt
-
 below_free : (place : List ℕ) (value : Said) (read : Result Said MergeFault) → IfOk read IsFree → IfOk (below place value read) IsFree
 below_free place value (Ok s) h = h
 below_free place value (Err f) h = tt
@@ -85,9 +82,9 @@ below_free place value (Err f) h = tt
 merged_by : (whole before : Said) (line : ℕ) (key : List ℕ) (value : Said) (read : Result Said MergeFault) (t m : Bool) → is_merge_key key ≡ t → IsFree before → IfOk read IsFree
     → IfOk (if t && not m then Err (record { line = line; path = key }) else (below key value read >>= λ v. Ok (if t then with_pairs before (new_pairs (keys_of whole) (sources v)) else with_pair before line key v))) IsFree
 merged_by whole before line key value read true true e h k =
-    then_free (below key value read) _ (below_free key value read k) (λ v free. with_pairs_free before (new_pairs (keys_of whole) (sources v)) h (new_free (keys_of whole) (sources v) (sources_free v free)))
+    then_has IsFree IsFree (below key value read) _ (below_free key value read k) (λ v free. with_pairs_free before (new_pairs (keys_of whole) (sources v)) h (new_free (keys_of whole) (sources v) (sources_free v free)))
 merged_by whole before line key value read true false e h k = tt
-merged_by whole before line key value read false m e h k = then_free (below key value read) _ (below_free key value read k) (λ v free. (h, e, free))
+merged_by whole before line key value read false m e h k = then_has IsFree IsFree (below key value read) _ (below_free key value read k) (λ v free. (h, e, free))
 
 rows_free : (whole s : Said) → IfOk (merged_rows whole s) IsFree
 rows_free whole (null line) = tt
@@ -96,10 +93,10 @@ rows_free whole (unknown line) = tt
 rows_free whole (sequence line) = tt
 rows_free whole (mapping line) = tt
 rows_free whole (with_item before value) =
-    then_free (merged_rows whole before) _ (rows_free whole before)
-    (λ b h. then_free (below (item_place (item_count before)) value (merged_rows value value)) _ (below_free (item_place (item_count before)) value (merged_rows value value) (rows_free value value)) (λ v k. (h, k)))
+    then_has IsFree IsFree (merged_rows whole before) _ (rows_free whole before)
+    (λ b h. then_has IsFree IsFree (below (item_place (item_count before)) value (merged_rows value value)) _ (below_free (item_place (item_count before)) value (merged_rows value value) (rows_free value value)) (λ v k. (h, k)))
 rows_free whole (with_pair before line key value) =
-    then_free (merged_rows whole before) _ (rows_free whole before)
+    then_has IsFree IsFree (merged_rows whole before) _ (rows_free whole before)
     (λ b h. merged_by whole b line key value (merged_rows value value) (is_merge_key key) (may_merge value) refl h (rows_free value value))
 
 free : (a b : Said) → merged a ≡ Ok b → IsFree b

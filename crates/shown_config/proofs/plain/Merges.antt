@@ -4,6 +4,7 @@ use Rattle.std.proofs.Common.{◌≡◌, ℕ, ◌==◌, Bool, true, false, not, 
 use Rattle.std.specs.Cmp.Lexicographic.{pointwise}
 use Rattle.std.proofs.lemmas.List.Folds.{list_any-append}
 use Rattle.sim_base.specs.Refusals.{◌>>=◌}
+use Rattle.sim_base.proofs.RefusalLemmas.{then_has}
 use Rattle.yaml_tree.specs.Said.{Said, has_key}
 use Rattle.yaml_tree.specs.Said.Said.{null, text, unknown, sequence, mapping, with_item, with_pair}
 use Rattle.yaml_tree.proofs.KnownLaws.{same_bytes}
@@ -112,10 +113,6 @@ record IsKept (whole s b : Said) : Type 0 where
 abbrev IsPrefix : Said → Said → Type 0
 IsPrefix whole s = (k : List ℕ) → has_key k s ≡ true → has k (keys_of whole) ≡ true
 
-then_kept : {A B : Type 0} (P : A → Type 0) (Q : B → Type 0) (first : Result A MergeFault) (next : A → Result B MergeFault) → IfOk first P → ((a : A) → P a → IfOk (next a) Q) → IfOk (first >>= next) Q
-then_kept P Q (Ok a) next h k = k a h
-then_kept P Q (Err f) next h k = tt
-
 below_kept : (place : List ℕ) (value : Said) (read : Result Said MergeFault) → IfOk read IsPlain → IfOk (below place value read) IsPlain
 below_kept place value (Ok s) h = h
 below_kept place value (Err f) h = tt
@@ -139,7 +136,7 @@ row_kept : (whole before b value : Said) (line : ℕ) (key : List ℕ) (read : R
     → IsPlain (with_pair before line key value) → IsPrefix whole (with_pair before line key value) → IsKept whole before b → IfOk read IsPlain
     → IfOk (if t && not m then Err (record { line = line; path = key }) else (below key value read >>= λ v. Ok (if t then with_pairs b (new_pairs (keys_of whole) (sources v)) else with_pair b line key v))) (IsKept whole (with_pair before line key value))
 row_kept whole before b value line key read true true e h p kept r =
-    then_kept IsPlain (IsKept whole (with_pair before line key value)) (below key value read) _ (below_kept key value read r)
+    then_has IsPlain (IsKept whole (with_pair before line key value)) (below key value read) _ (below_kept key value read r)
     (λ v plain.
     let first : has_key (codes "<<") before ≡ false = subst (λ (k : List ℕ). has_key k before ≡ false) (merge_key key e) h.2 in
     let within : IsWithin b (keys_of whole) = λ k n. kept.keys k (outside k n) (inl first) in
@@ -163,7 +160,7 @@ row_kept whole before b value line key read true true e h p kept r =
     inside k (inr t) = t
 row_kept whole before b value line key read true false e h p kept r = tt
 row_kept whole before b value line key read false m e h p kept r =
-    then_kept IsPlain (IsKept whole (with_pair before line key value)) (below key value read) _ (below_kept key value read r)
+    then_has IsPlain (IsKept whole (with_pair before line key value)) (below key value read) _ (below_kept key value read r)
     (λ v plain.
     let there : has key (keys_of whole) ≡ true = p key (ap (λ x. has_key key before || x) (bytes_are_same key) ∙ or_right (has_key key before)) in
     record {
@@ -205,8 +202,8 @@ rows-kept (unknown line) whole h p = absurd h
 rows-kept (sequence line) whole h p = record { plain = h; items = λ q. q; pairs = λ q. q; keys = λ k n q. n }
 rows-kept (mapping line) whole h p = record { plain = h; items = λ q. q; pairs = λ q. q; keys = λ k n q. n }
 rows-kept (with_item before value) whole h p =
-    then_kept (IsKept whole before) (IsKept whole (with_item before value)) (merged_rows whole before) _ (rows-kept before whole h.1 p)
-    (λ b kept. then_kept IsPlain (IsKept whole (with_item before value)) (below (item_place (item_count before)) value (merged_rows value value)) _ (below_kept (item_place (item_count before)) value (merged_rows value value) (plain_of value value (merged_rows value value) (rows-kept value value h.2 (all_keys value h.2))))
+    then_has (IsKept whole before) (IsKept whole (with_item before value)) (merged_rows whole before) _ (rows-kept before whole h.1 p)
+    (λ b kept. then_has IsPlain (IsKept whole (with_item before value)) (below (item_place (item_count before)) value (merged_rows value value)) _ (below_kept (item_place (item_count before)) value (merged_rows value value) (plain_of value value (merged_rows value value) (rows-kept value value h.2 (all_keys value h.2))))
     (λ v plain. record {
       plain = (kept.items h.0, kept.plain, plain);
       items = λ q. kept.items q;
@@ -214,7 +211,7 @@ rows-kept (with_item before value) whole h p =
       keys = λ k n q. kept.keys k n q;
     }))
 rows-kept (with_pair before line key value) whole h p =
-    then_kept (IsKept whole before) (IsKept whole (with_pair before line key value)) (merged_rows whole before) _ (rows-kept before whole h.3 (λ k q. p k (or_left (has_key k before) _ q)))
+    then_has (IsKept whole before) (IsKept whole (with_pair before line key value)) (merged_rows whole before) _ (rows-kept before whole h.3 (λ k q. p k (or_left (has_key k before) _ q)))
     (λ b kept. row_kept whole before b value line key (merged_rows value value) (is_merge_key key) (may_merge value) refl h p kept (plain_of value value (merged_rows value value) (rows-kept value value h.4 (all_keys value h.4))))
 
 tree_kept : (s : Said) → IsPlain s → IfOk (merged_rows s s) IsPlain

@@ -4,6 +4,8 @@ use Rattle.std.specs.List.{AllByRecursion}
 use Rattle.std.proofs.lemmas.List.Elements.{All-from_recursion}
 use Rattle.sim_base.specs.Refusals.{◌>>=◌}
 use Rattle.sim_base.specs.declared.address.Ip.{Ip}
+use Rattle.sim_base.proofs.RefusalLemmas.{then_has, then_all, weaker}
+use Rattle.shd_config.proofs.Walks.{checked_has, below_has, needed_has, given_has, optional_has, Read}
 use Rattle.shd_values.specs.Word.{is_name_of_host}
 use Rattle.yaml_tree.specs.Said.{Said}
 use Rattle.yaml_merge.specs.Merge.{merged}
@@ -32,8 +34,7 @@ use Rattle.shd_config.specs.Host.{no_options, options_at, new_host, host_key, ho
 use Rattle.shd_config.specs.Config.{root, new_root, experimental_at, root_key, root_row, general_or, finished_root, root_of, merged_config, wrong_merge, config, is_passed_over}
 use Rattle.shown_config.specs.Plain.{AreApart, IsPlainProcess, IsRate, IsPlainHost, IsPlain}
 use Rattle.shown_config.specs.Same.{AreOverrides}
-use Rattle.shown_config.proofs.reading.ReadSteps.{Read}
-use Rattle.shown_config.proofs.plain.Has.{then_has, then_any, checked_has, below_has, needed_has, given_has, optional_has, or_default_has, through_keeps, IsPushed, ArePushed, through_pushes, weaker, read_length, read_each, read_names}
+use Rattle.shown_config.proofs.plain.Has.{or_default_has, through_keeps, IsPushed, ArePushed, through_pushes, read_length, read_each, read_names}
 use Rattle.shown_config.proofs.plain.GoodTrees.{IsGood, IsGoodPair, AreGoodPairs}
 use Rattle.shown_config.proofs.plain.Merges.{merged_good}
 use Rattle.shown_config.proofs.plain.PlainValues.{mapping_has, number_has, rate_has, address_has, within}
@@ -181,7 +182,7 @@ module _ (o : Overrides) (may : AreOverrides o) where
   root_key_has (Some keys.HostOptionDefaults) d p h g =
       then_has (λ v. IfSome v ArePlainOptions) IsRoot (optional p (options_at p)) _ (optional_has ArePlainOptions p (options_at p) (options_has p g.value))
       (λ v k. record { general = h.general; network = h.network; hosts = h.hosts; options = or_default_has ArePlainOptions v no_options k tt })
-  root_key_has (Some keys.Experimental) d p h g = then_any IsRoot (optional p (experimental_at p)) _ (λ v. h)
+  root_key_has (Some keys.Experimental) d p h g = then_all IsRoot (optional p (experimental_at p)) _ (λ v. h)
   root_key_has _ d p h g = tt
 
   row_by : (passed : Bool) (d : RootDraft) (p : Pair) → IsRoot d → IsGoodPair p → IfOk (if passed then Ok d else root_key o (key_of p.key) d p) IsRoot

@@ -1,6 +1,8 @@
 -- What the arguments, the environment and the final state are that are read from a good tree.
 use Rattle.std.proofs.Common.{◌≡◌, ℕ, ◌≤◌, Bool, true, false, if◌then◌else◌, List, [], map, length, Option, Some, None, IfSome, IfOk, IsUtf8, is_some, codes, bytes_eq, refl, sym, subst}
 use Rattle.std.specs.List.{AllByRecursion}
+use Rattle.sim_base.proofs.RefusalLemmas.{then_has, then_all, weaker}
+use Rattle.shd_config.proofs.Walks.{below_has, optional_has}
 use Rattle.shd_values.specs.Words.{words_of}
 use Rattle.yaml_tree.specs.Said.{Said}
 use Rattle.yaml_merge.specs.Plain.{items_in, pairs_in}
@@ -15,7 +17,7 @@ use Rattle.shd_config.specs.Keys.{key_of}
 use Rattle.shd_config.specs.Values.{mapping_at, text_at, number_at, signal_at}
 use Rattle.shd_config.specs.Process.{argument_row, arguments_in, arguments_at, variable_row, environment_at, new_state, state_alone, state_key, state_row, ended_state, state_of, running_state, state_in, state_at}
 use Rattle.shown_config.specs.Plain.{AreApart, IsPlainVariable, IsPlainState}
-use Rattle.shown_config.proofs.plain.Has.{then_has, then_any, below_has, optional_has, through_keeps, IsPushed, ArePushed, through_pushes, weaker, read_each, read_names}
+use Rattle.shown_config.proofs.plain.Has.{through_keeps, IsPushed, ArePushed, through_pushes, read_each, read_names}
 use Rattle.shown_config.proofs.plain.GoodTrees.{IsGood, IsGoodPair, AreGoodPairs, other_bytes, items_good, pairs_good}
 use Rattle.shown_config.proofs.plain.PlainValues.{mapping_has, text_has, scalar_has, scalar_utf8_has, number_has}
 use Rattle.shown_config.proofs.plain.SplitWords.{words_has}
@@ -71,16 +73,16 @@ IsStateDraft d = IfSome d.exited (λ n. n ≤ 255)
 
 state_key_has : (key : Option Key) (d : StateDraft) (p : Pair) → IsStateDraft d → IfOk (state_key key d p) IsStateDraft
 state_key_has (Some keys.Exited) d p h =
-    then_any IsStateDraft (state_alone (is_some d.signaled) p) _
+    then_all IsStateDraft (state_alone (is_some d.signaled) p) _
     (λ _. then_has (λ v. IfSome v (λ n. n ≤ 255)) IsStateDraft (optional p (number_at 0 255 p)) _
     (optional_has (λ n. n ≤ 255) p (number_at 0 255 p) (weaker (λ n. (0 ≤ n) × (n ≤ 255)) (λ n. n ≤ 255) (number_at 0 255 p) (number_has 0 255 p) (λ n k. k.1)))
     (λ v k. k))
-state_key_has (Some keys.Signaled) d p h = then_any IsStateDraft (state_alone (is_some d.exited) p) _ (λ _. then_any IsStateDraft (optional p (signal_at p)) _ (λ v. h))
+state_key_has (Some keys.Signaled) d p h = then_all IsStateDraft (state_alone (is_some d.exited) p) _ (λ _. then_all IsStateDraft (optional p (signal_at p)) _ (λ v. h))
 state_key_has _ d p h = tt
 
 ended_has : (line : ℕ) (exited : Option ℕ) (signaled : Option _) → IfSome exited (λ n. n ≤ 255) → IfOk (ended_state line exited signaled) IsPlainState
 ended_has line (Some status) signaled h = h
-ended_has line None signaled h = then_any IsPlainState (needed (codes "exited") line signaled) _ (λ signal. tt)
+ended_has line None signaled h = then_all IsPlainState (needed (codes "exited") line signaled) _ (λ signal. tt)
 
 state_of_has : (line : ℕ) (pairs : List Pair) → AllByRecursion IsGoodPair pairs → IfOk (state_of line pairs) IsPlainState
 unfolding state_of

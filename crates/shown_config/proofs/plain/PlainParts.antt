@@ -1,6 +1,8 @@
 -- What `general`, `network` and the options of hosts are that are read from a good tree.
 use Rattle.std.proofs.Common.{◌≡◌, ℕ, ◌-◌, ◌^◌, ◌<◌, ◌≤◌, true, List, Option, Some, None, IfSome, IfOk, IsUtf8, is_some, codes, refl, arith}
 use Rattle.std.specs.List.{AllByRecursion}
+use Rattle.sim_base.proofs.RefusalLemmas.{then_has, then_all, weaker}
+use Rattle.shd_config.proofs.Walks.{below_has, needed_has, given_has, optional_has}
 use Rattle.yaml_merge.specs.declared.plain.Pair.{Pair}
 use Rattle.shd_config.specs.declared.general.General.{General}
 use Rattle.shd_config.specs.declared.general.GeneralDraft.{GeneralDraft}
@@ -23,7 +25,7 @@ use Rattle.shd_config.specs.Host.{no_options, options_key, options_row, options_
 use Rattle.shown_config.specs.Plain.{IsPlainGraph}
 use Rattle.shown_config.specs.Same.{AreOverrides}
 use Rattle.text_trees.proofs.Bytes.{IsText_known}
-use Rattle.shown_config.proofs.plain.Has.{then_has, then_any, below_has, needed_has, given_has, optional_has, or_default_has, through_keeps, weaker}
+use Rattle.shown_config.proofs.plain.Has.{or_default_has, through_keeps}
 use Rattle.shown_config.proofs.plain.GoodTrees.{IsGood, IsGoodPair, AreGoodPairs}
 use Rattle.shown_config.proofs.plain.PlainValues.{mapping_has, text_has, number_has, size_has, IsSmall, time_has, stop_has, text_with_has, some_text}
 
@@ -77,10 +79,10 @@ module _ (o : Overrides) (may : AreOverrides o) where
   general_key_has (Some keys.DataDirectory) d p h g =
       then_has (λ v. IfSome v IsName) IsDraft (optional p (text_with is_some_text p)) _ (optional_has IsName p (text_with is_some_text p) (name_has p g.value))
       (λ v k. record { stop = h.stop; seed = h.seed; parallelism = h.parallelism; bootstrap = h.bootstrap; directory = k })
-  general_key_has (Some keys.LogLevel) d p h g = then_any IsDraft (optional p (text_at p)) _ (λ v. h)
-  general_key_has (Some keys.HeartbeatInterval) d p h g = then_any IsDraft (optional p (text_at p)) _ (λ v. h)
-  general_key_has (Some keys.Progress) d p h g = then_any IsDraft (optional p (text_at p)) _ (λ v. h)
-  general_key_has (Some keys.ModelUnblockedSyscallLatency) d p h g = then_any IsDraft (optional p (text_at p)) _ (λ v. h)
+  general_key_has (Some keys.LogLevel) d p h g = then_all IsDraft (optional p (text_at p)) _ (λ v. h)
+  general_key_has (Some keys.HeartbeatInterval) d p h g = then_all IsDraft (optional p (text_at p)) _ (λ v. h)
+  general_key_has (Some keys.Progress) d p h g = then_all IsDraft (optional p (text_at p)) _ (λ v. h)
+  general_key_has (Some keys.ModelUnblockedSyscallLatency) d p h g = then_all IsDraft (optional p (text_at p)) _ (λ v. h)
   general_key_has _ d p h g = tt
 
   finished_general_has : (line : ℕ) (d : GeneralDraft) → IsDraft d → IfOk (finished_general o line d) IsPlainGeneral
@@ -119,7 +121,7 @@ module _ (o : Overrides) (may : AreOverrides o) where
 
 file_key_has : (key : Option Key) (d : Option (List ℕ)) (p : Pair) → IfSome d IsUtf8 → IsGoodPair p → IfOk (file_key key d p) (λ x. IfSome x IsUtf8)
 file_key_has (Some keys.Path) d p h g = then_has IsUtf8 (λ x. IfSome x IsUtf8) (text_at p) _ (text_has p g.value) (λ t u. u)
-file_key_has (Some keys.Compression) d p h g = then_any (λ x. IfSome x IsUtf8) (optional p _) _ (λ v. h)
+file_key_has (Some keys.Compression) d p h g = then_all (λ x. IfSome x IsUtf8) (optional p _) _ (λ v. h)
 file_key_has _ d p h g = tt
 
 file_of_has : (line : ℕ) (pairs : List Pair) → AllByRecursion IsGoodPair pairs → IfOk (file_of line pairs) IsUtf8
@@ -137,12 +139,12 @@ record IsGraphDraft (d : GraphDraft) : Type 0 where
   file : IfSome d.file IsUtf8
 
 graph_key_has : (kind : Option GraphKind) (key : Option Key) (d : GraphDraft) (p : Pair) → IsGraphDraft d → IsGoodPair p → IfOk (graph_key kind key d p) IsGraphDraft
-graph_key_has kind (Some keys.Type) d p h g = then_any IsGraphDraft (scalar_at _ p) _ (λ v. record { inline = h.inline; file = h.file })
+graph_key_has kind (Some keys.Type) d p h g = then_all IsGraphDraft (scalar_at _ p) _ (λ v. record { inline = h.inline; file = h.file })
 graph_key_has kind (Some keys.Inline) d p h g =
-    then_any IsGraphDraft (graph_alone kind (is_some d.file) p) _
+    then_all IsGraphDraft (graph_alone kind (is_some d.file) p) _
     (λ _. then_has (λ v. IfSome v IsUtf8) IsGraphDraft (optional p (text_at p)) _ (optional_has IsUtf8 p (text_at p) (text_has p g.value)) (λ v k. record { inline = k; file = h.file }))
 graph_key_has kind (Some keys.File) d p h g =
-    then_any IsGraphDraft (graph_alone kind (is_some d.inline) p) _
+    then_all IsGraphDraft (graph_alone kind (is_some d.inline) p) _
     (λ _. then_has (λ v. IfSome v IsUtf8) IsGraphDraft (optional p (file_at p)) _ (optional_has IsUtf8 p (file_at p) (file_has p g.value)) (λ v k. record { inline = h.inline; file = k }))
 graph_key_has kind _ d p h g = tt
 
@@ -159,7 +161,7 @@ unfolding graph_of
 graph_of_has line pairs h =
     then_has IsGraphDraft IsPlainGraph (through (graph_row (kind_in pairs)) new_graph pairs) _
     (through_keeps IsGraphDraft IsGoodPair (graph_row (kind_in pairs)) (λ d p k g. graph_key_has (kind_in pairs) (key_of p.key) d p k g) new_graph pairs (record { inline = tt; file = tt }) h)
-    (λ d k. then_any IsPlainGraph (needed (codes "type") _ d.kind) _ (λ kind. source_has _ d kind k))
+    (λ d k. then_all IsPlainGraph (needed (codes "type") _ d.kind) _ (λ kind. source_has _ d kind k))
 
 graph_has : (p : Pair) → IsGood p.value → IfOk (graph_at p) IsPlainGraph
 unfolding graph_at
@@ -170,8 +172,8 @@ HasGraph d = IfSome d.graph IsPlainGraph
 
 network_key_has : (key : Option Key) (d : NetworkDraft) (p : Pair) → HasGraph d → IsGoodPair p → IfOk (network_key key d p) HasGraph
 network_key_has (Some keys.Graph) d p h g = then_has IsPlainGraph HasGraph (graph_at p) _ (graph_has p g.value) (λ v k. k)
-network_key_has (Some keys.UseShortestPath) d p h g = then_any HasGraph (optional p (truth_at p)) _ (λ v. h)
-network_key_has (Some keys.RouterQueue) d p h g = then_any HasGraph (optional p _) _ (λ v. h)
+network_key_has (Some keys.UseShortestPath) d p h g = then_all HasGraph (optional p (truth_at p)) _ (λ v. h)
+network_key_has (Some keys.RouterQueue) d p h g = then_all HasGraph (optional p _) _ (λ v. h)
 network_key_has _ d p h g = tt
 
 abbrev pub IsPlainNetwork : Network → Type 0
@@ -197,8 +199,8 @@ abbrev pub ArePlainOptions : HostOptions → Type 0
 ArePlainOptions d = IfSome d.pcap_capture_size IsCapture
 
 options_key_has : (key : Option Key) (d : HostOptions) (p : Pair) → ArePlainOptions d → IfOk (options_key key d p) ArePlainOptions
-options_key_has (Some keys.LogLevel) d p h = then_any ArePlainOptions (optional p (text_at p)) _ (λ v. h)
-options_key_has (Some keys.PcapEnabled) d p h = then_any ArePlainOptions (optional p (truth_at p)) _ (λ v. h)
+options_key_has (Some keys.LogLevel) d p h = then_all ArePlainOptions (optional p (text_at p)) _ (λ v. h)
+options_key_has (Some keys.PcapEnabled) d p h = then_all ArePlainOptions (optional p (truth_at p)) _ (λ v. h)
 options_key_has (Some keys.PcapCaptureSize) d p h = then_has (λ v. IfSome v IsCapture) ArePlainOptions (optional p (size_at p)) _ (optional_has IsCapture p (size_at p) (size_has p)) (λ v k. k)
 options_key_has _ d p h = tt
 

@@ -3,6 +3,8 @@ use Rattle.std.proofs.Common.{◌≡◌, ℕ, ◌≤◌, true, List, [], length,
 use Rattle.std.specs.List.{AllByRecursion}
 use Rattle.std.proofs.lemmas.List.Elements.{All-from_recursion}
 use Rattle.sim_base.specs.declared.time.Time.{Time}
+use Rattle.sim_base.proofs.RefusalLemmas.{then_has, then_all, weaker}
+use Rattle.shd_config.proofs.Walks.{checked_has, below_has, needed_has, optional_has, Read}
 use Rattle.shd_values.specs.Word.{names_program}
 use Rattle.yaml_tree.specs.Said.{Said}
 use Rattle.yaml_merge.specs.declared.plain.Pair.{Pair}
@@ -17,8 +19,7 @@ use Rattle.shd_config.specs.Keys.{key_of}
 use Rattle.shd_config.specs.Values.{mapping_at, sequence_at, time_at, signal_at, text_with}
 use Rattle.shd_config.specs.Process.{arguments_at, environment_at, state_at, zero_time, start_in, is_behind, shutdown_at, new_process, process_key, process_row, finished_process, process_of, process_in, process_at, process_item, processes_at, texts_size}
 use Rattle.shown_config.specs.Plain.{AreApart, IsPlainVariable, IsPlainState, IsShutdown, IsPlainProcess}
-use Rattle.shown_config.proofs.reading.ReadSteps.{Read}
-use Rattle.shown_config.proofs.plain.Has.{then_has, then_any, checked_has, below_has, needed_has, optional_has, ranged_has, or_default_has, through_keeps, IsPushed, ArePushed, through_pushes, weaker, read_length, read_each}
+use Rattle.shown_config.proofs.plain.Has.{ranged_has, or_default_has, through_keeps, IsPushed, ArePushed, through_pushes, read_length, read_each}
 use Rattle.shown_config.proofs.plain.GoodTrees.{IsGood, IsGoodPair, AreGoodPairs, keys_in}
 use Rattle.shown_config.proofs.plain.PlainValues.{mapping_has, sequence_has, IsSmall, time_has, text_with_has}
 use Rattle.shown_config.proofs.plain.PlainLists.{IsEnvironment, no_environment, arguments_has, environment_has, state_has}
@@ -62,7 +63,7 @@ module _ (start : Option Time) where
       then_has (λ v. IfSome v (IsBehind start)) (IsDraft start) (optional p (shutdown_at start p)) _ (optional_has (IsBehind start) p (shutdown_at start p) (shutdown_has start p))
       (λ v k. record { path = h.path; args = h.args; environment = h.environment; begins = h.begins; shutdown = k; state = h.state })
   process_key_has (Some keys.ShutdownSignal) d p h g =
-      then_any (IsDraft start) (optional p (signal_at p)) _
+      then_all (IsDraft start) (optional p (signal_at p)) _
       (λ v. record { path = h.path; args = h.args; environment = h.environment; begins = h.begins; shutdown = h.shutdown; state = h.state })
   process_key_has (Some keys.ExpectedFinalState) d p h g =
       then_has (λ v. IfSome v IsPlainState) (IsDraft start) (optional p (state_at p)) _ (optional_has IsPlainState p (state_at p) (state_has p g.value))

@@ -7,6 +7,8 @@ use Rattle.std.specs.Str.{str_eq_ignore_ascii_case}
 use Rattle.sim_base.specs.Units.{latest_time}
 use Rattle.base_texts.specs.Quantity.{◌>>=◌, Units, time_units, rate_units, in_64_bits, some_digits, digits_of_text, unit_of_text, factor_in, quantity, time_of_text, rate_of_text}
 use Rattle.sim_base.specs.declared.time.Time.{Time}
+use Rattle.sim_base.proofs.RefusalLemmas.{then_has, then_all}
+use Rattle.shd_config.proofs.Walks.{checked_has, valued_has}
 use Rattle.shd_values.specs.Number.{number_of, size_of}
 use Rattle.shd_values.specs.Address.{address_of}
 use Rattle.yaml_merge.specs.Plain.{text_in, items_in, pairs_in}
@@ -15,7 +17,7 @@ use Rattle.shd_config.specs.declared.fault.ConfigKind.TheVariants.{WrongType, Ba
 use Rattle.shd_config.specs.Values.{mapping_at, sequence_at, text_at, scalar_at, is_within, number_at, size_at, time_of, time_at, may_stop_at, stop_time_at, rate_at, may_be_host, address_at, text_with, is_some_text}
 use Rattle.shd_config.specs.Limits.{MayStop, IsSomeText}
 use Rattle.shown_config.specs.Plain.{IsRate}
-use Rattle.shown_config.proofs.plain.Has.{then_has, then_any, checked_has, valued_has, ranged_has}
+use Rattle.shown_config.proofs.plain.Has.{ranged_has}
 use Rattle.shown_config.proofs.plain.GoodTrees.{IsGood, text_good, items_good, AreGoodPairs, pairs_good}
 
 -- ---- shapes
@@ -30,7 +32,7 @@ pub text_has : (p : Pair) → IsGood p.value → IfOk (text_at p) IsUtf8
 text_has p h = valued_has IsUtf8 WrongType p (text_in p.value) (text_good p.value h)
 
 pub scalar_has : {A : Type 0} (P : A → Type 0) (grammar : List ℕ → Option A) → ((text : List ℕ) → IfSome (grammar text) P) → (p : Pair) → IfOk (scalar_at grammar p) P
-scalar_has P grammar f p = then_any P (text_at p) _ (λ text. valued_has P BadValue p (grammar text) (f text))
+scalar_has P grammar f p = then_all P (text_at p) _ (λ text. valued_has P BadValue p (grammar text) (f text))
 
 -- the same of a grammar of UTF-8
 pub scalar_utf8_has : {A : Type 0} (P : A → Type 0) (grammar : List ℕ → Option A) → ((text : List ℕ) → IsUtf8 text → IfSome (grammar text) P) → (p : Pair) → IsGood p.value → IfOk (scalar_at grammar p) P
@@ -44,10 +46,10 @@ pub within : (least most n : ℕ) → is_within least most n ≡ true → (least
 within least most n e = let k = and_parts (nat_le least n) (nat_le n most) e in (leb-true least n k.0, leb-true n most k.1)
 
 pub number_has : (least most : ℕ) (p : Pair) → IfOk (number_at least most p) (λ n. (least ≤ n) × (n ≤ most))
-number_has least most p = then_any (λ n. (least ≤ n) × (n ≤ most)) (scalar_at number_of p) _ (λ n. ranged_has (λ k. (least ≤ k) × (k ≤ most)) (is_within least most) p n (within least most n))
+number_has least most p = then_all (λ n. (least ≤ n) × (n ≤ most)) (scalar_at number_of p) _ (λ n. ranged_has (λ k. (least ≤ k) × (k ≤ most)) (is_within least most) p n (within least most n))
 
 pub size_has : (p : Pair) → IfOk (size_at p) (λ n. (1 ≤ n) × (n ≤ 65535))
-size_has p = then_any (λ n. (1 ≤ n) × (n ≤ 65535)) (scalar_at size_of p) _ (λ n. ranged_has (λ k. (1 ≤ k) × (k ≤ 65535)) (is_within 1 65535) p n (within 1 65535 n))
+size_has p = then_all (λ n. (1 ≤ n) × (n ≤ 65535)) (scalar_at size_of p) _ (λ n. ranged_has (λ k. (1 ≤ k) × (k ≤ 65535)) (is_within 1 65535) p n (within 1 65535 n))
 
 -- ---- quantities
 
@@ -82,7 +84,7 @@ pub time_has : (p : Pair) → IfOk (time_at p) IsSmall
 time_has p = scalar_has IsSmall time_of time_of_has p
 
 pub stop_has : (p : Pair) → IfOk (stop_time_at p) MayStop
-stop_has p = then_any MayStop (time_at p) _ (λ t. ranged_has MayStop may_stop_at p t (within 1 latest_time t.nanos))
+stop_has p = then_all MayStop (time_at p) _ (λ t. ranged_has MayStop may_stop_at p t (within 1 latest_time t.nanos))
 
 pub rate_has : (p : Pair) → IfOk (rate_at p) IsRate
 rate_has p =
@@ -90,7 +92,7 @@ rate_has p =
     (λ n small. ranged_has IsRate (λ k. nat_lt 0 k) p n (λ e. (ltb-true 0 n e, small)))
 
 pub address_has : (p : Pair) → IfOk (address_at p) (λ ip. may_be_host ip ≡ true)
-address_has p = then_any (λ ip. may_be_host ip ≡ true) (scalar_at address_of p) _ (λ ip. ranged_has (λ x. may_be_host x ≡ true) may_be_host p ip (λ e. e))
+address_has p = then_all (λ ip. may_be_host ip ≡ true) (scalar_at address_of p) _ (λ ip. ranged_has (λ x. may_be_host x ≡ true) may_be_host p ip (λ e. e))
 
 pub text_with_has : (test : List ℕ → Bool) (p : Pair) → IsGood p.value → IfOk (text_with test p) (λ t. IsUtf8 t × (test t ≡ true))
 text_with_has test p h =

@@ -6,6 +6,7 @@ use Rattle.std.proofs.lemmas.Bool.{and_parts}
 use Rattle.std.proofs.lemmas.List.Elements.{recursion_from_All}
 use Rattle.sim_base.specs.Refusals.{◌>>=◌}
 use Rattle.sim_base.specs.declared.time.Time.{Time}
+use Rattle.sim_base.proofs.RefusalLemmas.{then_has, then_all, weaker}
 use Rattle.shd_values.specs.Word.{names_program}
 use Rattle.yaml_tree.proofs.KnownLaws.{same_bytes}
 use Rattle.yaml_merge.specs.Plain.{is_null, text_in}
@@ -19,7 +20,7 @@ use Rattle.shd_config.specs.Keys.{names, key_in, key_of}
 use Rattle.shd_config.specs.Values.{time_of, time_at, signal_at, text_with}
 use Rattle.shd_config.specs.Process.{arguments_at, environment_at, state_at, zero_time, start_of, start_in_row, start_in, shutdown_at, process_key, process_row}
 use Rattle.shown_config.specs.Plain.{AreApart}
-use Rattle.shown_config.proofs.plain.Has.{then_has, then_any, through_keeps, weaker}
+use Rattle.shown_config.proofs.plain.Has.{through_keeps}
 use Rattle.shown_config.proofs.plain.GoodTrees.{keys_in}
 
 abbrev is_start : Option Key → Bool
@@ -59,12 +60,12 @@ module _ (start : Option Time) where
   -- a row that isn't the start's leaves the start
   row_stays : (x : Option Time) (key : Option Key) (d : ProcessDraft) (p : Pair) → is_start key ≡ false → d.start_time ≡ x → IfOk (process_key start key d p) (λ e. e.start_time ≡ x)
   row_stays x (Some keys.StartTime) d p n h = absurd (true≢false n)
-  row_stays x (Some keys.Path) d p n h = then_any (λ e. e.start_time ≡ x) (text_with names_program p) _ (λ v. h)
-  row_stays x (Some keys.Args) d p n h = then_any (λ e. e.start_time ≡ x) (optional p (arguments_at p)) _ (λ v. h)
-  row_stays x (Some keys.Environment) d p n h = then_any (λ e. e.start_time ≡ x) (optional p (environment_at p)) _ (λ v. h)
-  row_stays x (Some keys.ShutdownTime) d p n h = then_any (λ e. e.start_time ≡ x) (optional p (shutdown_at start p)) _ (λ v. h)
-  row_stays x (Some keys.ShutdownSignal) d p n h = then_any (λ e. e.start_time ≡ x) (optional p (signal_at p)) _ (λ v. h)
-  row_stays x (Some keys.ExpectedFinalState) d p n h = then_any (λ e. e.start_time ≡ x) (optional p (state_at p)) _ (λ v. h)
+  row_stays x (Some keys.Path) d p n h = then_all (λ e. e.start_time ≡ x) (text_with names_program p) _ (λ v. h)
+  row_stays x (Some keys.Args) d p n h = then_all (λ e. e.start_time ≡ x) (optional p (arguments_at p)) _ (λ v. h)
+  row_stays x (Some keys.Environment) d p n h = then_all (λ e. e.start_time ≡ x) (optional p (environment_at p)) _ (λ v. h)
+  row_stays x (Some keys.ShutdownTime) d p n h = then_all (λ e. e.start_time ≡ x) (optional p (shutdown_at start p)) _ (λ v. h)
+  row_stays x (Some keys.ShutdownSignal) d p n h = then_all (λ e. e.start_time ≡ x) (optional p (signal_at p)) _ (λ v. h)
+  row_stays x (Some keys.ExpectedFinalState) d p n h = then_all (λ e. e.start_time ≡ x) (optional p (state_at p)) _ (λ v. h)
   row_stays x _ d p n h = tt
 
   stays : (x : Option Time) (d : ProcessDraft) (ps : List Pair) → d.start_time ≡ x → AllByRecursion NoStart ps → IfOk (through (process_row start) d ps) (λ e. e.start_time ≡ x)

@@ -4,6 +4,7 @@ use Rattle.std.specs.List.{AllByRecursion}
 use Rattle.std.proofs.lemmas.List.Elements.{recursion_from_All}
 use Rattle.sim_base.specs.Refusals.{◌>>=◌}
 use Rattle.sim_base.specs.declared.address.Ip.{Ip}
+use Rattle.sim_base.proofs.RefusalLemmas.{then_is}
 use Rattle.shd_values.specs.Address.{address_of}
 use Rattle.shd_values.specs.Word.{is_name_of_host}
 use Rattle.yaml_tree.specs.Said.Said.{sequence, mapping}
@@ -27,7 +28,7 @@ use Rattle.shown_config.proofs.blocks.Blocks.{Block, block_said, after_block, bl
 use Rattle.shown_config.proofs.blocks.BlockSaid.{block_pairs_is}
 use Rattle.shown_config.proofs.config.ConfigBlock.{process_item, processes_block, leaf_if, option_entries, rate_cell, host_block, hosts_block}
 use Rattle.shown_config.proofs.config.ConfigWords.{address_small}
-use Rattle.shown_config.proofs.reading.ReadSteps.{then_ok, through_ok, mapping_ok, checked_ok, ranged_ok, text_pair, number_ok, rate_ok, size_ok, within_ok, items_not_null}
+use Rattle.shown_config.proofs.reading.ReadSteps.{through_ok, mapping_ok, checked_ok, ranged_ok, text_pair, number_ok, rate_ok, size_ok, within_ok, items_not_null}
 use Rattle.shown_config.proofs.reading.ProcessReads.{processes_reads}
 use Rattle.shown_config.proofs.words.Decimals.{address_read}
 
@@ -36,7 +37,7 @@ use Rattle.shown_config.proofs.words.Decimals.{address_read}
 address_ok : (ip : Ip) (line : ℕ) (key : List ℕ) → may_be_host ip ≡ true → address_at (text_pair line key (shown_address ip)) ≡ Ok ip
 address_ok ip line key h =
     let p = text_pair line key (shown_address ip) in
-    then_ok (scalar_at address_of p) (ranged may_be_host p) ip (Ok ip) (ap (valued BadValue p) (address_read ip (address_small ip h))) (ranged_ok may_be_host p ip h)
+    then_is (scalar_at address_of p) (ranged may_be_host p) ip (Ok ip) (ap (valued BadValue p) (address_read ip (address_small ip h))) (ranged_ok may_be_host p ip h)
 
 -- the options that are read
 abbrev read_options : Bool → Bool → ℕ → HostOptions
@@ -116,8 +117,8 @@ unfolding host_at host_of
 host_reads n h p =
     let q = pair_at n (quote h.name) (block_said (1 + n) (mapping (1 + n)) (host_block h)) in
     let pairs = block_pairs (1 + n) (host_block h) in
-    then_ok (checked BadValue q (is_name_of_host h.name)) (λ _. mapping_at q >>= λ ps. below q (host_of q ps)) tt (Ok (host_read n h)) (checked_ok BadValue q _ p.name)
-    (then_ok (mapping_at q) (λ ps. below q (host_of q ps)) pairs (Ok (host_read n h)) (mapping_ok q pairs (block_pairs_is (1 + n) (host_block h)))
+    then_is (checked BadValue q (is_name_of_host h.name)) (λ _. mapping_at q >>= λ ps. below q (host_of q ps)) tt (Ok (host_read n h)) (checked_ok BadValue q _ p.name)
+    (then_is (mapping_at q) (λ ps. below q (host_of q ps)) pairs (Ok (host_read n h)) (mapping_ok q pairs (block_pairs_is (1 + n) (host_block h)))
     (ap (λ r. below q (r >>= finished_host q (mapping_line q.line pairs))) (host_leads h p (1 + n))))
 
 -- ---- hosts
@@ -144,8 +145,8 @@ hosts_reads n hs some few p =
     let q = pair_at n (bare (codes "hosts")) (block_said (1 + n) (mapping (1 + n)) (hosts_block hs)) in
     let pairs = block_pairs (1 + n) (hosts_block hs) in
     let e = length_hosts (1 + n) hs in
-    then_ok (mapping_at q) (λ ps. checked OutOfRange q (is_within 1 16384 (length ps)) >>= λ _. below q (through hosts_row [] ps)) pairs (Ok (hosts_read (1 + n) hs)) (mapping_ok q pairs (block_pairs_is (1 + n) (hosts_block hs)))
-    (then_ok (checked OutOfRange q (is_within 1 16384 (length pairs))) (λ _. below q (through hosts_row [] pairs)) tt (Ok (hosts_read (1 + n) hs)) (checked_ok OutOfRange q _ (within_ok 1 16384 (length pairs) (omega (arith, e, some)) (omega (arith, e, few))))
+    then_is (mapping_at q) (λ ps. checked OutOfRange q (is_within 1 16384 (length ps)) >>= λ _. below q (through hosts_row [] ps)) pairs (Ok (hosts_read (1 + n) hs)) (mapping_ok q pairs (block_pairs_is (1 + n) (hosts_block hs)))
+    (then_is (checked OutOfRange q (is_within 1 16384 (length pairs))) (λ _. below q (through hosts_row [] pairs)) tt (Ok (hosts_read (1 + n) hs)) (checked_ok OutOfRange q _ (within_ok 1 16384 (length pairs) (omega (arith, e, some)) (omega (arith, e, few))))
     (ap (below q) (hosts_through (1 + n) [] hs p)))
 
 -- ---- the same hosts

@@ -6,6 +6,7 @@ use Rattle.sim_base.specs.Signal.{signal_name}
 use Rattle.sim_base.specs.declared.signal.Signal.{Signal}
 use Rattle.sim_base.specs.declared.signal.Signal.TheVariants.{SigHup, SigInt, SigQuit, SigIll, SigTrap, SigAbrt, SigBus, SigFpe, SigKill, SigUsr1, SigSegv, SigUsr2, SigPipe, SigAlrm, SigTerm, SigXcpu}
 use Rattle.sim_base.specs.declared.time.Time.{Time}
+use Rattle.sim_base.proofs.RefusalLemmas.{then_is}
 use Rattle.shd_values.specs.Word.{signal_of, names_program}
 use Rattle.yaml_tree.specs.Said.Said.{sequence, mapping}
 use Rattle.yaml_merge.specs.Plain.{is_null}
@@ -29,7 +30,7 @@ use Rattle.shown_config.proofs.forms.Cells.Cell.{word}
 use Rattle.shown_config.proofs.blocks.Blocks.{cell_said, leaves_pairs, item_said, items_said, after_item}
 use Rattle.shown_config.proofs.blocks.BlockSaid.{item_pairs, words_items, words_items_is, entries_pairs, entries_pairs_is, mappings, items_items}
 use Rattle.shown_config.proofs.config.ConfigBlock.{args_cell, variable_words, environment_cell, state_cell, shutdown_leaves, process_item}
-use Rattle.shown_config.proofs.reading.ReadSteps.{then_ok, through_ok, mapping_ok, sequence_ok, checked_ok, ranged_ok, text_pair, number_ok, time_ok, text_ok, words_not_null, entries_not_null}
+use Rattle.shown_config.proofs.reading.ReadSteps.{through_ok, mapping_ok, sequence_ok, checked_ok, ranged_ok, text_pair, number_ok, time_ok, text_ok, words_not_null, entries_not_null}
 use Rattle.shown_config.proofs.words.Decimals.{time_read}
 
 -- ---- values
@@ -73,7 +74,7 @@ environment_reads : (n line : ℕ) (key : List ℕ) (vs : List Variable) → env
 unfolding environment_at
 environment_reads n line key vs =
     let p : Pair = record { line = line; key = key; value = cell_said n (environment_cell vs) } in
-    then_ok (mapping_at p) (λ pairs. below p (through variable_row [] pairs)) (entries_pairs n (map variable_words vs)) (Ok vs) (mapping_ok p _ (entries_pairs_is n (map variable_words vs)))
+    then_is (mapping_at p) (λ pairs. below p (through variable_row [] pairs)) (entries_pairs n (map variable_words vs)) (Ok vs) (mapping_ok p _ (entries_pairs_is n (map variable_words vs)))
     (ap (below p) (variables_through n [] vs))
 
 state_reads : (n line : ℕ) (key : List ℕ) (s : FinalState) → IsPlainState s → state_at (record { line = line; key = key; value = cell_said n (state_cell s) }) ≡ Ok s
@@ -90,7 +91,7 @@ state_not_null n Running = refl
 shutdown_reads : (start t : Time) (line : ℕ) (key : List ℕ) → IsShutdown start t → shutdown_at (Some start) (text_pair line key (shown_time t)) ≡ Ok t
 shutdown_reads start t line key h =
     let p = text_pair line key (shown_time t) in
-    then_ok (time_at p) (ranged (is_behind (Some start)) p) t (Ok t) (time_ok t line key h.1) (ranged_ok (is_behind (Some start)) p t (lt-ltb start.nanos t.nanos h.0))
+    then_is (time_at p) (ranged (is_behind (Some start)) p) t (Ok t) (time_ok t line key h.1) (ranged_ok (is_behind (Some start)) p t (lt-ltb start.nanos t.nanos h.0))
 
 -- ---- a process
 
@@ -147,10 +148,10 @@ unfolding process_at process_in
 process_reads n line key p h =
     let q : Pair = record { line = line; key = key; value = item_said n (process_item p) } in
     let inside : process_in q ≡ Ok p =
-    then_ok (mapping_at q) (λ pairs. below q (process_of q.line pairs)) (process_pairs n p) (Ok p) (mapping_ok q _ (item_pairs n (process_item p)))
+    then_is (mapping_at q) (λ pairs. below q (process_of q.line pairs)) (process_pairs n p) (Ok p) (mapping_ok q _ (item_pairs n (process_item p)))
     (ap (below q) (process_of_reads n line p h)) in
-    then_ok (process_in q) (λ c. checked OutOfRange q (nat_le (texts_size c) 65536) >>= λ _. Ok c) p (Ok p) inside
-    (then_ok (checked OutOfRange q (nat_le (texts_size p) 65536)) (λ _. Ok p) tt (Ok p) (checked_ok OutOfRange q _ (le-leb (texts_size p) 65536 h.few)) refl)
+    then_is (process_in q) (λ c. checked OutOfRange q (nat_le (texts_size c) 65536) >>= λ _. Ok c) p (Ok p) inside
+    (then_is (checked OutOfRange q (nat_le (texts_size p) 65536)) (λ _. Ok p) tt (Ok p) (checked_ok OutOfRange q _ (le-leb (texts_size p) 65536 h.few)) refl)
 
 -- ---- processes
 
@@ -170,7 +171,7 @@ unfolding processes_at
 processes_reads n line key ps few h =
     let q : Pair = record { line = line; key = key; value = items_said n (sequence n) (map process_item ps) } in
     let found = mappings n (map process_item ps) in
-    then_ok (sequence_at q) (λ items. checked OutOfRange q (nat_le (length items) 64) >>= λ _. through (read_item key) [] items) found (Ok ps) (sequence_ok q found (items_items n (map process_item ps)))
-    (then_ok (checked OutOfRange q (nat_le (length found) 64)) (λ _. through (read_item key) [] found) tt (Ok ps)
+    then_is (sequence_at q) (λ items. checked OutOfRange q (nat_le (length items) 64) >>= λ _. through (read_item key) [] items) found (Ok ps) (sequence_ok q found (items_items n (map process_item ps)))
+    (then_is (checked OutOfRange q (nat_le (length found) 64)) (λ _. through (read_item key) [] found) tt (Ok ps)
     (checked_ok OutOfRange q _ (le-leb (length found) 64 (let e = length_mappings n ps in omega (arith, e, few))))
     (processes_through n key [] ps h))

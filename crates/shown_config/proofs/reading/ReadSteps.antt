@@ -1,34 +1,27 @@
 -- Steps of reading that succeed.
-use Rattle.std.proofs.Common.{◌≡◌, ℕ, ◌^◌, ◌<◌, ◌≤◌, Bool, true, false, nat_lt, nat_le, List, [], ◌∷◌, ◌++◌, Option, Some, Result, Ok, codes, decimal, refl, ap, ◌∙◌, arith, le-leb, lt-ltb}
+use Rattle.std.proofs.Common.{◌≡◌, ℕ, ◌^◌, ◌<◌, ◌≤◌, Bool, true, false, nat_lt, nat_le, List, [], ◌∷◌, ◌++◌, Option, Some, Ok, codes, decimal, refl, ap, arith, le-leb, lt-ltb}
 use Rattle.std.proofs.lemmas.Bool.{and_from}
 use Rattle.sim_base.specs.Units.{latest_time}
-use Rattle.sim_base.specs.Refusals.{◌>>=◌}
 use Rattle.base_texts.specs.Quantity.{rate_of_text}
 use Rattle.shd_values.specs.Number.{number_of, size_of}
 use Rattle.sim_base.specs.declared.time.Time.{Time}
+use Rattle.sim_base.proofs.RefusalLemmas.{then_is}
 use Rattle.yaml_tree.specs.Said.{Said}
 use Rattle.yaml_tree.specs.Said.Said.{text, with_item, with_pair}
 use Rattle.yaml_merge.specs.Plain.{is_null, pairs_in, items_in}
 use Rattle.yaml_merge.specs.declared.plain.Pair.{Pair}
 use Rattle.shd_config.specs.declared.fault.ConfigKind.{ConfigKind}
 use Rattle.shd_config.specs.declared.fault.ConfigKind.TheVariants.{WrongType, BadValue}
-use Rattle.shd_config.specs.declared.fault.ConfigFault.{ConfigFault}
 use Rattle.shd_config.specs.Steps.{valued, checked, through, optional}
 use Rattle.shd_config.specs.Values.{mapping_at, sequence_at, scalar_at, ranged, is_within, number_at, size_at, time_at, may_stop_at, stop_time_at, rate_at, text_with}
+use Rattle.shd_config.proofs.Walks.{Read}
 use Rattle.config_lines.specs.Shown.{shown_time, shown_rate}
 use Rattle.shown_config.proofs.words.Words.{Word, says}
 use Rattle.shown_config.proofs.blocks.Blocks.{Item, with_words, with_entries, item_said, items_said, after_item}
 use Rattle.shown_config.proofs.words.Decimals.{time_read, rate_read, number_read, size_read}
 
-abbrev pub Read : Type 0 → Type 0
-Read A = Result A ConfigFault
-
--- a step that succeeds, before the others
-pub then_ok : {A B : Type 0} (read : Read A) (next : A → Read B) (x : A) (r : Read B) → read ≡ Ok x → next x ≡ r → (read >>= next) ≡ r
-then_ok read next x r e f = ap (λ s. s >>= next) e ∙ f
-
 pub through_ok : {S A : Type 0} (step : S → A → Read S) (s t : S) (x : A) (xs : List A) (r : Read S) → step s x ≡ Ok t → through step t xs ≡ r → through step s (x ∷ xs) ≡ r
-through_ok step s t x xs r e f = then_ok (step s x) (λ next. through step next xs) t r e f
+through_ok step s t x xs r e f = then_is (step s x) (λ next. through step next xs) t r e f
 
 pub optional_ok : {A : Type 0} (p : Pair) (read : Read A) (x : A) → is_null p.value ≡ false → read ≡ Ok x → optional p read ≡ Ok (Some x)
 optional_ok p read x n e = rw (n, e) refl
@@ -60,7 +53,7 @@ text_pair n key bytes = record { line = n; key = key; value = text n bytes }
 pub number_ok : (least most n line : ℕ) (key : List ℕ) → least ≤ n → n ≤ most → most < 2 ^ 64 → number_at least most (text_pair line key (decimal n)) ≡ Ok n
 number_ok least most n line key a b s =
     let p = text_pair line key (decimal n) in
-    then_ok (scalar_at number_of p) (ranged (is_within least most) p) n (Ok n) (ap (valued BadValue p) (number_read n (omega arith))) (ranged_ok (is_within least most) p n (within_ok least most n a b))
+    then_is (scalar_at number_of p) (ranged (is_within least most) p) n (Ok n) (ap (valued BadValue p) (number_read n (omega arith))) (ranged_ok (is_within least most) p n (within_ok least most n a b))
 
 pub time_ok : (t : Time) (line : ℕ) (key : List ℕ) → t.nanos < 2 ^ 64 → time_at (text_pair line key (shown_time t)) ≡ Ok t
 time_ok t line key h = ap (valued BadValue (text_pair line key (shown_time t))) (time_read t h)
@@ -68,17 +61,17 @@ time_ok t line key h = ap (valued BadValue (text_pair line key (shown_time t))) 
 pub stop_time_ok : (t : Time) (line : ℕ) (key : List ℕ) → 1 ≤ t.nanos → t.nanos ≤ latest_time → stop_time_at (text_pair line key (shown_time t)) ≡ Ok t
 stop_time_ok t line key a b =
     let p = text_pair line key (shown_time t) in
-    then_ok (time_at p) (ranged may_stop_at p) t (Ok t) (time_ok t line key (omega arith)) (ranged_ok may_stop_at p t (within_ok 1 latest_time t.nanos a b))
+    then_is (time_at p) (ranged may_stop_at p) t (Ok t) (time_ok t line key (omega arith)) (ranged_ok may_stop_at p t (within_ok 1 latest_time t.nanos a b))
 
 pub rate_ok : (n line : ℕ) (key : List ℕ) → 1 ≤ n → n < 2 ^ 64 → rate_at (text_pair line key (shown_rate n)) ≡ Ok n
 rate_ok n line key a b =
     let p = text_pair line key (shown_rate n) in
-    then_ok (scalar_at rate_of_text p) (ranged (λ k. nat_lt 0 k) p) n (Ok n) (ap (valued BadValue p) (rate_read n b)) (ranged_ok (λ k. nat_lt 0 k) p n (lt-ltb 0 n a))
+    then_is (scalar_at rate_of_text p) (ranged (λ k. nat_lt 0 k) p) n (Ok n) (ap (valued BadValue p) (rate_read n b)) (ranged_ok (λ k. nat_lt 0 k) p n (lt-ltb 0 n a))
 
 pub size_ok : (n line : ℕ) (key : List ℕ) → 1 ≤ n → n ≤ 65535 → size_at (text_pair line key (decimal n ++ codes " B")) ≡ Ok n
 size_ok n line key a b =
     let p = text_pair line key (decimal n ++ codes " B") in
-    then_ok (scalar_at size_of p) (ranged (is_within 1 65535) p) n (Ok n) (ap (valued BadValue p) (size_read n (omega arith))) (ranged_ok (is_within 1 65535) p n (within_ok 1 65535 n a b))
+    then_is (scalar_at size_of p) (ranged (is_within 1 65535) p) n (Ok n) (ap (valued BadValue p) (size_read n (omega arith))) (ranged_ok (is_within 1 65535) p n (within_ok 1 65535 n a b))
 
 pub text_ok : (test : List ℕ → Bool) (bytes key : List ℕ) (line : ℕ) → test bytes ≡ true → text_with test (text_pair line key bytes) ≡ Ok bytes
 text_ok test bytes key line e = rw e refl

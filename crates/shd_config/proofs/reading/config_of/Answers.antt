@@ -1,13 +1,14 @@
 use Rattle.std.proofs.Common.{Bool, All, IfOk, subst}
 use Rattle.std.proofs.lemmas.Result.{err_from_is_err_and}
 use Rattle.sim_base.specs.Refusals.{◌>>=◌}
+use Rattle.sim_base.proofs.RefusalLemmas.{weaker}
 use Rattle.yaml_tree.specs.Trees.{is_empty}
 use Rattle.yaml_merge.specs.Merge.{merged}
 use Rattle.shd_config.specs.Config.{wrong_merge, merged_config, config}
 use Rattle.shd_config.specs.Limits.{MayStop, IsSomeText, AreFewHosts, HasFewProcesses, HaveFewBytes, IsWithinLimits}
 use Rattle.shd_config.specs.Steps.{Gives}
 use Rattle.shd_config.specs.declared.config.Config.{Config}
-use Rattle.shd_config.proofs.LimitLaws.{answers_within, part}
+use Rattle.shd_config.proofs.LimitLaws.{answers_within}
 use Rattle.shd_config.proofs.StepLaws.{first_fails, then_gives}
 use Rattle.shd_config.proofs.reading.config_of.Goals as goal
 
@@ -25,25 +26,25 @@ returns-clause-told c = λ said holds plain shallow.
 
 pub returns-clause-few : goal.returns-clause-few
 returns-clause-few c =
-    part IsWithinLimits (λ (x : Config). AreFewHosts x.hosts) c.merged_config.result
+    weaker IsWithinLimits (λ (x : Config). AreFewHosts x.hosts) c.merged_config.result
     (answers_within c.args.overrides.now c.requires c.is_empty.result c.in_ok-merged.merged c.merged_config.result c.merged_config.ensures) (λ x h. h.few)
 
 pub returns-clause-processes : goal.returns-clause-processes
 returns-clause-processes c =
-    part IsWithinLimits (λ (x : Config). All HasFewProcesses x.hosts) c.merged_config.result
+    weaker IsWithinLimits (λ (x : Config). All HasFewProcesses x.hosts) c.merged_config.result
     (answers_within c.args.overrides.now c.requires c.is_empty.result c.in_ok-merged.merged c.merged_config.result c.merged_config.ensures) (λ x h. h.processes)
 
 pub returns-clause-texts : goal.returns-clause-texts
 returns-clause-texts c =
-    part IsWithinLimits (λ (x : Config). All HaveFewBytes x.hosts) c.merged_config.result
+    weaker IsWithinLimits (λ (x : Config). All HaveFewBytes x.hosts) c.merged_config.result
     (answers_within c.args.overrides.now c.requires c.is_empty.result c.in_ok-merged.merged c.merged_config.result c.merged_config.ensures) (λ x h. h.texts)
 
 pub returns-clause-stop : goal.returns-clause-stop
 returns-clause-stop c =
-    part IsWithinLimits (λ (x : Config). MayStop x.stop_time) c.merged_config.result
+    weaker IsWithinLimits (λ (x : Config). MayStop x.stop_time) c.merged_config.result
     (answers_within c.args.overrides.now c.requires c.is_empty.result c.in_ok-merged.merged c.merged_config.result c.merged_config.ensures) (λ x h. h.stop)
 
 pub returns-clause-directory : goal.returns-clause-directory
 returns-clause-directory c =
-    part IsWithinLimits (λ (x : Config). IsSomeText x.data_directory) c.merged_config.result
+    weaker IsWithinLimits (λ (x : Config). IsSomeText x.data_directory) c.merged_config.result
     (answers_within c.args.overrides.now c.requires c.is_empty.result c.in_ok-merged.merged c.merged_config.result c.merged_config.ensures) (λ x h. h.directory)
