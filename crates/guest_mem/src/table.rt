@@ -173,6 +173,24 @@ impl PageTable {
             (bytes_for right (length into.old) (mapped_cells (shown self.now.pages)) at ≡ None) }
         ensures unchanged { OnErr result (into.new ≡ into.old) }
     {
+        if into.is_empty() || into.len() > (PAGE_SIZE - at % PAGE_SIZE) as usize {
+            return self.copy_out_over(right, at, into);
+        }
+        let Some(bytes) = self.within(right, at, into.len()) else {
+            return Err(Bad);
+        };
+        into.copy_from_slice(bytes);
+        Ok(())
+    }
+
+    /// The same over any number of pages.
+    fn copy_out_over(&self, right: Right, at: u32, into: &mut [u8]) -> Result<(), Bad>
+        ensures ok { OnOk result
+            (bytes_for right (length into.old) (mapped_cells (shown self.now.pages)) at ≡ Some into.new) }
+        ensures bad { OnErr result
+            (bytes_for right (length into.old) (mapped_cells (shown self.now.pages)) at ≡ None) }
+        ensures unchanged { OnErr result (into.new ≡ into.old) }
+    {
         let len = into.len();
         if !self.is_open(right, at, len) {
             return Err(Bad);
@@ -192,6 +210,23 @@ impl PageTable {
 
     /// Puts `bytes` at `at`, where each address may be written.
     pub fn copy_in(&mut self, at: u32, bytes: &[u8]) -> Result<(), Bad>
+        ensures put { OnOk result
+            (mapped_cells (shown self.new.pages) ≡ put_all (mapped_cells (shown self.old.pages)) at bytes.now) }
+        ensures may { OnOk result
+            (IsSome (bytes_for Right.Write (length bytes.now) (mapped_cells (shown self.old.pages)) at)) }
+        ensures bad { OnErr result
+            (bytes_for Right.Write (length bytes.now) (mapped_cells (shown self.old.pages)) at ≡ None) }
+        ensures unchanged { OnErr result (self.new ≡ self.old) }
+        ensures kept { IsSameShape self.old self.new }
+    {
+        if bytes.is_empty() || bytes.len() > (PAGE_SIZE - at % PAGE_SIZE) as usize {
+            return self.copy_in_over(at, bytes);
+        }
+        self.put_within(at, bytes)
+    }
+
+    /// The same over any number of pages.
+    fn copy_in_over(&mut self, at: u32, bytes: &[u8]) -> Result<(), Bad>
         ensures put { OnOk result
             (mapped_cells (shown self.new.pages) ≡ put_all (mapped_cells (shown self.old.pages)) at bytes.now) }
         ensures may { OnOk result

@@ -4,7 +4,7 @@ use Rattle.guest_mem.specs.declared.right.Right.{Right}
 use Rattle.guest_mem.specs.Memory.{bytes_for}
 use Rattle.guest_mem.specs.inside.Pages.{mapped_cells}
 use Rattle.guest_mem.specs.inside.PageStore.{shown}
-use Rattle.guest_mem.proofs.table.PageTable.copy_out.Given as goal
+use Rattle.guest_mem.proofs.table.PageTable.copy_out_over.Given as goal
 
 -- the bytes so far are those of the cells
 pub record IsReadSoFar (right : Right) (cells : Cells) (a done : ℕ) (into : List ℕ) : Type 0 where

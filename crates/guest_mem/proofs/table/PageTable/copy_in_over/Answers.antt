@@ -6,7 +6,7 @@ use Rattle.guest_mem.specs.Memory.{bytes_for, put_all}
 use Rattle.guest_mem.proofs.CellLemmas.{part_open_after, put_more}
 use Rattle.guest_mem.specs.inside.Pages.{mapped_cells}
 use Rattle.guest_mem.specs.inside.PageStore.{shown}
-use Rattle.guest_mem.proofs.table.PageTable.copy_in.Goals as goal
+use Rattle.guest_mem.proofs.table.PageTable.copy_in_over.Goals as goal
 
 pub unreachable-requires : goal.unreachable-requires
 unreachable-requires c =

@@ -4,7 +4,7 @@ use Rattle.elf_load.specs.Cells.{Cells}
 use Rattle.guest_mem.proofs.CellLemmas.{bytes_for_append, part_open, length_put_mid}
 use Rattle.guest_mem.specs.inside.Pages.{mapped_cells}
 use Rattle.guest_mem.specs.inside.PageStore.{shown}
-use Rattle.guest_mem.proofs.table.PageTable.copy_out.Goals as goal
+use Rattle.guest_mem.proofs.table.PageTable.copy_out_over.Goals as goal
 
 pub unreachable-requires : goal.unreachable-requires
 unreachable-requires c =

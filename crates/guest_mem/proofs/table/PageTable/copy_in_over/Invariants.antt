@@ -4,7 +4,7 @@ use Rattle.guest_mem.specs.inside.PageTable.{IsSameShape}
 use Rattle.guest_mem.specs.declared.table.PageTable.{PageTable}
 use Rattle.guest_mem.specs.inside.Pages.{mapped_cells}
 use Rattle.guest_mem.specs.inside.PageStore.{shown}
-use Rattle.guest_mem.proofs.table.PageTable.copy_in.Given as goal
+use Rattle.guest_mem.proofs.table.PageTable.copy_in_over.Given as goal
 
 -- the bytes so far are put
 pub record IsPutSoFar (old now : PageTable) (a done : ℕ) (bytes : List ℕ) : Type 0 where
