@@ -19,6 +19,9 @@ use std::alloc::Global;
 /// The most entries.
 const MOST: u32 = 256;
 
+/// So many entries are read into a small buffer, since a buffer is cleared whole.
+const FEW: u32 = 8;
+
 /// The entries of a poll, and how many of them tell of something.
 #[derive(Clone, Copy)]
 pub struct PollPlan {
@@ -117,8 +120,28 @@ impl View<'_> {
         if count > MOST {
             return Err(Refusal::Errno(Errno::Einval));
         }
-        let mut entries = [0; 2048];
-        let entries = &mut entries[..8 * count as usize];
+        if count > FEW {
+            let mut entries = [0; 2048];
+            return self.plan_over(at, count, limit_at, &mut entries[..8 * count as usize]);
+        }
+        let mut entries = [0; 64];
+        self.plan_over(at, count, limit_at, &mut entries[..8 * count as usize])
+    }
+
+    /// The same, where the entries are read into this room.
+    fn plan_over(
+        &self,
+        at: u32,
+        count: u32,
+        limit_at: u32,
+        entries: &mut [u8],
+    ) -> Result<PollPlan, Refusal>
+        requires time { self.now.time.nanos ≤ latest_time }
+        requires count { count ≤ max_entries }
+        requires length { length entries.old ≡ entry_size * count }
+        ensures asked { Sees (spec.poll_plan self.now.time at count limit_at) self.now result }
+        ensures fits { IfOk result (λ p. p.count ≤ max_entries) }
+    {
         poll_entries(at, entries, &self.task.memory)?;
         let found = self.poll_found(count as usize, limit_at, entries)?;
         Ok(PollPlan { at, count, found })
@@ -132,10 +155,23 @@ impl Stage<'_> {
         requires count { polling.count ≤ max_entries }
         ensures { Acts (spec.polls self.old.time polling) self.old self.new result }
     {
+        if polling.count > FEW {
+            let mut entries = [0; 2048];
+            return self.tell_over(polling, &mut entries[..8 * polling.count as usize]);
+        }
+        let mut entries = [0; 64];
+        self.tell_over(polling, &mut entries[..8 * polling.count as usize])
+    }
+
+    /// The same, where the entries are read into this room.
+    fn tell_over(&mut self, polling: PollPlan, entries: &mut [u8]) -> Result<u32, CallError>
+        requires time { self.old.time.nanos ≤ latest_time }
+        requires count { polling.count ≤ max_entries }
+        requires length { length entries.old ≡ entry_size * polling.count }
+        ensures { Acts (spec.polls self.old.time polling) self.old self.new result }
+    {
         let PollPlan { at, count, found } = polling;
         let count = count as usize;
-        let mut entries = [0; 2048];
-        let entries = &mut entries[..8 * count];
         poll_entries(at, entries, &self.task.memory)?;
         let alloc = self.shared.files.allocator();
         let bytes = self.view().told_entries(alloc, count, entries)?;
