@@ -23,12 +23,12 @@ use Rattle.round_lookahead.specs.declared.workers.host_task.HostTask.{HostTask}
 use Rattle.round_lookahead.specs.declared.workers.worked.Done.{Done}
 use Rattle.round_lookahead.specs.declared.workers.worked.Worked.{Worked}
 use Rattle.round_lookahead.specs.declared.world.in_place.Alone.{Alone}
-use Rattle.round_lookahead.specs.Alone.{HasRunFirst, IsPlaced, HasKept, HasPassed, AreRunInPlace, held_by}
+use Rattle.round_lookahead.specs.inside.Alone.{HasRunFirst, IsPlaced, HasKept, HasPassed, AreRunInPlace, held_by}
 use Rattle.round_lookahead.specs.inside.Arrivals.{Boxed}
 use Rattle.round_lookahead.specs.inside.Backs.{lists_of, lines_done}
 use Rattle.round_lookahead.specs.inside.Dues.{lesser_due}
 use Rattle.round_lookahead.specs.inside.Idles.{IsIdle}
-use Rattle.round_lookahead.specs.Rounds.{AreWorks, AreRows, IsRound, all_parcels}
+use Rattle.round_lookahead.specs.inside.Rounds.{AreWorks, AreRows, IsRound, all_parcels}
 use Rattle.round_lookahead.specs.Tasks.{IsTask, AreTasksOf}
 use Rattle.round_lookahead.specs.Took.{host_of, hosts_below}
 use Rattle.round_lookahead.specs.Works.{HostJob, IsDone, AreDone, HasRun, done_of, numbers, parcels_made}

@@ -30,11 +30,11 @@ use Rattle.round_lookahead.specs.declared.workers.worked.Worked.{Worked}
 use Rattle.round_lookahead.specs.declared.world.in_place.Alone.{Alone}
 use Rattle.round_lookahead.specs.declared.world.gained.Gained.{Gained}
 use Rattle.round_lookahead.specs.declared.world.settling.Settled.{Settled}
-use Rattle.round_lookahead.specs.Alone.{AreRunInPlace}
+use Rattle.round_lookahead.specs.inside.Alone.{AreRunInPlace}
 use Rattle.round_lookahead.specs.inside.Arrivals.{Boxed, arrivals}
 use Rattle.round_lookahead.specs.inside.Backs.{all_done, all_spilled, ids_of, lines_done, lists_of, took_by, row_arrivals, AreAtHome}
 use Rattle.round_lookahead.specs.inside.Dues.{first_due, lesser_due}
-use Rattle.round_lookahead.specs.RoundsInPlace.{IsRoundInPlace}
+use Rattle.round_lookahead.specs.inside.RoundsInPlace.{IsRoundInPlace}
 use Rattle.round_lookahead.specs.inside.Settles.{IsBack, HasSettled}
 use Rattle.round_lookahead.specs.inside.Waits.{IsSameHosts, rows_of}
 use Rattle.round_lookahead.specs.Tasks.{waiting}

@@ -23,7 +23,7 @@ use Rattle.round_lookahead.specs.declared.workers.host_task.HostTask.{HostTask}
 use Rattle.round_lookahead.specs.declared.workers.worked.Worked.{Worked}
 use Rattle.round_lookahead.specs.inside.Arrivals.{Boxed}
 use Rattle.round_lookahead.specs.inside.Benches.{AreBenches, AreParts, HaveWorked, IsReady, IsUnusedOf}
-use Rattle.round_lookahead.specs.Rounds.{IsRound}
+use Rattle.round_lookahead.specs.inside.Rounds.{IsRound}
 use Rattle.round_lookahead.specs.Tasks.{AreTasks, AreTasksOf}
 use Rattle.round_lookahead.specs.Works.{numbers, parcels_made}
 use Rattle.round_lookahead.proofs.Spreads.{AreSpread, into, back}

@@ -20,7 +20,7 @@ use Rattle.round_lookahead.specs.declared.workers.worked.Worked.{Worked}
 use Rattle.round_lookahead.specs.inside.Arrivals.{Boxed}
 use Rattle.round_lookahead.specs.inside.Benches.{HasWorked, HaveWorked}
 use Rattle.round_lookahead.specs.Posts.{IsPosted, carried, given_back}
-use Rattle.round_lookahead.specs.Rounds.{AreWorks}
+use Rattle.round_lookahead.specs.inside.Rounds.{AreWorks}
 use Rattle.round_lookahead.specs.Tasks.{AreTasks}
 use Rattle.round_lookahead.specs.Works.{HostJob, IsWork, numbers, parcels_made}
 use Rattle.round_lookahead.proofs.Spreads.{AreSpread, spread_one, spread_none, spread_more}

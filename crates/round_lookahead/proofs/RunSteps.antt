@@ -14,7 +14,7 @@ use Rattle.round_lookahead.specs.declared.workers.host_task.HostTask.{HostTask}
 use Rattle.round_lookahead.specs.declared.workers.worked.Done.{Done}
 use Rattle.round_lookahead.specs.declared.workers.worked.Worked.{Worked}
 use Rattle.round_lookahead.specs.inside.Backs.{all_done, lines_done}
-use Rattle.round_lookahead.specs.Rounds.{AreWorks}
+use Rattle.round_lookahead.specs.inside.Rounds.{AreWorks}
 use Rattle.round_lookahead.specs.inside.Settles.{done_numbers}
 use Rattle.round_lookahead.specs.Tasks.{waiting}
 use Rattle.round_lookahead.specs.Works.{HostJob, IsRunOf, AreDone, parcels_by, parcels_made}

@@ -15,7 +15,7 @@ use Rattle.world_order.proofs.Members.{IsIn, Each, IsIn_left, IsIn_right, IsIn_e
 use Rattle.round_lookahead.specs.declared.workers.worked.Worked.{Worked}
 use Rattle.round_lookahead.specs.inside.Arrivals.{Boxed}
 use Rattle.round_lookahead.specs.Posts.{IsPosted, carried, given_back}
-use Rattle.round_lookahead.specs.Rounds.{all_parcels}
+use Rattle.round_lookahead.specs.inside.Rounds.{all_parcels}
 
 -- ---- puts and spills
 

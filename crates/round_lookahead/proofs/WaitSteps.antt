@@ -12,7 +12,7 @@ use Rattle.world_order.proofs.Members.{IsIn, IsIn_permutation, Each_from_All, Al
 use Rattle.world_order.proofs.Parts.{second_first}
 use Rattle.round_lookahead.specs.declared.workers.host_task.HostTask.{HostTask}
 use Rattle.round_lookahead.specs.declared.workers.worked.Done.{Done}
-use Rattle.round_lookahead.specs.Alone.{held_by}
+use Rattle.round_lookahead.specs.inside.Alone.{held_by}
 use Rattle.round_lookahead.specs.inside.Arrivals.{Boxed, arrivals}
 use Rattle.round_lookahead.specs.inside.Backs.{row_arrivals}
 use Rattle.round_lookahead.specs.inside.Dues.{first_due, lesser_due}

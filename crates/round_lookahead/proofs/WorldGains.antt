@@ -42,8 +42,8 @@ use Rattle.round_lookahead.specs.inside.Arrivals.{Boxed, arrivals}
 use Rattle.round_lookahead.specs.inside.Backs.{all_done, all_spilled, took_by, ids_of, row_arrivals, AreAtHome}
 use Rattle.round_lookahead.specs.Counts.{counts_of}
 use Rattle.round_lookahead.specs.Gains.{IsGained, IsTaken, HasTurns, HasGained, turns_from}
-use Rattle.round_lookahead.specs.RoundsInPlace.{IsRoundInPlace}
-use Rattle.round_lookahead.specs.Rounds.{IsRound, AreWorks, all_parcels}
+use Rattle.round_lookahead.specs.inside.RoundsInPlace.{IsRoundInPlace}
+use Rattle.round_lookahead.specs.inside.Rounds.{IsRound, AreWorks, all_parcels}
 use Rattle.round_lookahead.specs.inside.Dues.{first_due}
 use Rattle.round_lookahead.specs.inside.Settles.{done_numbers, CanSettle, IsBack, HasSettled}
 use Rattle.round_lookahead.specs.Tasks.{waiting, AreTasks}

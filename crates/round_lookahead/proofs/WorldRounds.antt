@@ -32,7 +32,7 @@ use Rattle.round_lookahead.specs.declared.workers.worked.Worked.{Worked}
 use Rattle.round_lookahead.specs.declared.world.world_state.World.{World}
 use Rattle.round_lookahead.specs.inside.Arrivals.{Boxed}
 use Rattle.round_lookahead.specs.inside.Backs.{all_done, all_spilled, row_arrivals}
-use Rattle.round_lookahead.specs.Rounds.{IsRound, all_parcels}
+use Rattle.round_lookahead.specs.inside.Rounds.{IsRound, all_parcels}
 use Rattle.round_lookahead.specs.inside.Settles.{CanSettle}
 use Rattle.round_lookahead.specs.Tasks.{waiting}
 use Rattle.round_lookahead.specs.Works.{HostJob, parcels_made}

@@ -1,13 +1,10 @@
 pub mod Tasks
 pub mod Posts
 pub mod Works
-pub mod Rounds
-pub mod Alone
 pub mod WorldStands
 pub mod Took
 pub mod Gains
 pub mod Counts
-pub mod RoundsInPlace
 pub mod OpeningWorld
 pub mod Reached
 pub mod inside

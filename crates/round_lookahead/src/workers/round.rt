@@ -5,7 +5,7 @@ ghost use Rattle.sim_base.specs.Units.{latest_time};
 ghost use Rattle.host_inbox.specs.Sizes.{most_inboxes};
 ghost use Rattle.host_state.specs.HostRecord.{HostRecord};
 ghost use Rattle.round_lookahead.specs.inside.Benches.{AreBenches, AreParts, HaveWorked, IsReady};
-ghost use Rattle.round_lookahead.specs.Rounds.{IsRound};
+ghost use Rattle.round_lookahead.specs.inside.Rounds.{IsRound};
 ghost use Rattle.round_lookahead.specs.Tasks.{AreTasks, AreTasksOf};
 
 use crate::workers::bench::Bench;

@@ -2,7 +2,7 @@
 ghost use Rattle.std.specs.Prelude.{◌≡◌, ◌≤◌, ◌<◌, [], None, All, IfOk, OnOk, length};
 ghost use Rattle.sim_base.specs.Units.{latest_time};
 ghost use Rattle.run_files.specs.Written.{written_in};
-ghost use Rattle.round_lookahead.specs.Alone.{AreRunInPlace, HasKept, HasPassed};
+ghost use Rattle.round_lookahead.specs.inside.Alone.{AreRunInPlace, HasKept, HasPassed};
 ghost use Rattle.round_lookahead.specs.Tasks.{AreTasksOf};
 
 use crate::workers::host_task::HostTask;

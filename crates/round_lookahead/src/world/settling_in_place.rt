@@ -3,7 +3,7 @@ ghost use Rattle.std.specs.Prelude.{◌≡◌, ◌≤◌, ◌<◌, IfOk, flat_ma
 ghost use Rattle.sim_base.specs.Units.{latest_time};
 ghost use Rattle.host_inbox.specs.Sizes.{most_inboxes};
 ghost use Rattle.round_lookahead.specs.inside.Dues.{first_due};
-ghost use Rattle.round_lookahead.specs.RoundsInPlace.{IsRoundInPlace};
+ghost use Rattle.round_lookahead.specs.inside.RoundsInPlace.{IsRoundInPlace};
 ghost use Rattle.round_lookahead.specs.Tasks.{AreTasksOf, waiting};
 
 use crate::workers::host_task::HostTask;

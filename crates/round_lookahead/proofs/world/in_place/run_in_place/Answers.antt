@@ -1,7 +1,7 @@
 use Rattle.std.proofs.Common.{◌≡◌, ◌<◌, ◌≤◌, ◌+◌, ℕ, suc, List, All, length, get_or, slice_set, ap, sym, subst, arith}
 use Rattle.std.proofs.lemmas.List.Elements.{All-append}
 use Rattle.sim_base.specs.declared.event.Parcel.{Parcel}
-use Rattle.round_lookahead.specs.Alone.{AreRunInPlace}
+use Rattle.round_lookahead.specs.inside.Alone.{AreRunInPlace}
 use Rattle.round_lookahead.proofs.AloneSteps.{none_placed, kept_more, passed_more, may_run_here}
 use Rattle.round_lookahead.proofs.PlaceSteps.{get_or_at}
 use Rattle.round_lookahead.specs.declared.workers.host_task.HostTask.{HostTask}

@@ -1,5 +1,5 @@
 use Rattle.std.proofs.Common.{◌<◌, ◌≤◌, All, length}
-use Rattle.round_lookahead.specs.Alone.{AreRunInPlace}
+use Rattle.round_lookahead.specs.inside.Alone.{AreRunInPlace}
 use Rattle.round_lookahead.proofs.world.in_place.run_in_place.Given as goal
 
 -- the hosts before the place were run
