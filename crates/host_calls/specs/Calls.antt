@@ -5,12 +5,9 @@ use Rattle.sim_base.specs.declared.alarm.AlarmTarget.TheVariants.{Process}
 use Rattle.sim_base.specs.declared.state.State.{State}
 use Rattle.sim_base.specs.declared.state.State.TheVariants.{Exited}
 use Rattle.sim_base.specs.declared.time.Time.{Time}
-use Rattle.sim_base.specs.Refusals.{◌>>=◌, ◌>>◌}
 use Rattle.host_wants.specs.declared.error.Refusal.{Refusal}
 use Rattle.host_wants.specs.declared.error.Refusal.TheVariants as refusal
-use Rattle.host_sockets.specs.declared.sockets.Sockets.{Sockets}
 use Rattle.host_sockets.specs.Sockets.{SocketsRecord}
-use Rattle.host_sockets.specs.StandsFor.{Stand}
 use Rattle.host_wants.specs.Wanted.{wants_alarm}
 use Rattle.host_calls.specs.declared.all.Parts.{Parts}
 use Rattle.call_parts.specs.declared.call.Call.{Call}
@@ -44,13 +41,14 @@ use Rattle.host_calls.specs.Epoll.{wait_plan, epoll_waits}
 use Rattle.file_calls.specs.Eventfd.{eventfd2}
 use Rattle.file_calls.specs.Files.{fcntl, openat, pipe2, file_read_plan, reads, file_write_plan, writes}
 use Rattle.file_calls.specs.Guest.{getpid, brk, getrandom}
-use Rattle.host_calls.specs.Parts.{PartsRecord, PartsStand, Slot, SlotStands, slot_of, slot_in, with_slot, Scene, scene, local_of, plainly}
+use Rattle.host_calls.specs.Parts.{PartsRecord, PartsStand, Slot, slot_of, slot_in, with_slot, Scene, scene, local_of, plainly}
 use Rattle.call_parts.specs.Polling.{max_entries}
 use Rattle.host_calls.specs.Polling.{poll_plan, polls}
-use Rattle.file_calls.specs.Scene.{Local, Is, negative}
+use Rattle.file_calls.specs.Scene.{Local, negative}
 use Rattle.host_calls.specs.Sockets.{socket, bind, listen, accept_plan, accepts, connect_plan, connects, getsockname, getpeername, send_plan, sendto_plan, sends_by, recv_plan, recvfrom_plan, receives, getsockopt, shutdown}
 use Rattle.call_parts.specs.Sockets.{socket_number, setsockopt}
 use Rattle.file_calls.specs.Times.{clock_gettime, sleep_asked, timerfd_create, timerfd_settime}
+use Rattle.sim_base.specs.Refusals.{◌>>=◌, ◌>>◌}
 
 -- argument n of six
 abbrev pub arg : List ℕ → ℕ → ℕ
@@ -260,15 +258,6 @@ call known now process number args h = answers_in process (call_slot known now p
 -- what the code answers and leaves
 abbrev pub PartsCalled : Answer × PartsRecord → Answer → Parts → Type 0
 PartsCalled (b, h) a c = (a ≡ b) × PartsStand c h
-
-abbrev pub SlotCalled : Answer × Slot → Answer → Option Task → Shared → Sockets → Type 0
-SlotCalled (b, p) a task shared c = (a ≡ b) × SlotStands task shared c p
-
-abbrev pub SceneCalled : Answer × Scene → Answer → Task → Shared → Sockets → Type 0
-SceneCalled (b, s) a task shared c = (a ≡ b) × ((task ≡ s.task) × ((shared ≡ s.shared) × Stand c s.sockets))
-
-abbrev pub IsCalled : Answer × Local → Answer → Task → Shared → Type 0
-IsCalled (b, s) a task shared = (a ≡ b) × Is s task shared
 
 -- whether a call waits: the others never do
 abbrev pub is_wait : Result Plan Refusal → Bool

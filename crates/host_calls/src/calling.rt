@@ -5,6 +5,7 @@ ghost use Rattle.sim_base.specs.Units.{latest_time};
 ghost use Rattle.host_sockets.specs.Sockets.{SocketsRecord};
 ghost use Rattle.host_sockets.specs.StandsFor.{Stand};
 ghost use Rattle.host_calls.specs.Calls as spec;
+ghost use Rattle.host_calls.specs.inside.Calls as inside;
 ghost use Rattle.host_calls.specs.Parts.{Answers, PartsRecord, PartsStand, scene, Scene, local_of};
 ghost use Rattle.host_calls.specs.Parts.{slot as slot_at, Leaves};
 ghost use Rattle.host_calls.specs.inside.Stage.{Stays, Acts, Called, local_on, scene_on};
@@ -230,7 +231,7 @@ fn want_alarm(process: u32, deadline: Option<Time>, shared: &mut Shared) -> Resu
 
 /// A call that waits is kept.
 fn block(process: u32, why: Why, task: &mut Task, shared: &mut Shared) -> Result<Answer, NoMemory>
-    ensures { IfOk result (λ a. spec.IsCalled (spec.blocks process why (task.old, shared.old)) a task.new shared.new) }
+    ensures { IfOk result (λ a. inside.IsCalled (spec.blocks process why (task.old, shared.old)) a task.new shared.new) }
 {
     match task.kept {
         Some(first) => Ok(Answer::Block(first)),
@@ -276,7 +277,7 @@ fn call_slot(
     sockets: &mut Sockets,
 ) -> Result<Answer, NoMemory>
     requires { now.nanos ≤ latest_time }
-    ensures { IfOk result (λ a. (t : SocketsRecord) → Stand sockets.old t → spec.SlotCalled (spec.call_slot known.now now process number args (slot_at slot.old shared.old t)) a slot.new shared.new sockets.new) }
+    ensures { IfOk result (λ a. (t : SocketsRecord) → Stand sockets.old t → inside.SlotCalled (spec.call_slot known.now now process number args (slot_at slot.old shared.old t)) a slot.new shared.new sockets.new) }
 {
     match slot {
         Some(task) => {

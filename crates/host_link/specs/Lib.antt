@@ -8,3 +8,4 @@ pub mod Outbox
 pub mod Parcels
 pub mod Sending
 pub mod Wants
+pub mod inside

@@ -2,6 +2,7 @@
 
 ghost use Rattle.std.specs.Prelude.{◌≡◌, ◌++◌, [], map, OnOk};
 ghost use Rattle.host_link.specs.Outbox as spec;
+ghost use Rattle.host_link.specs.inside.Outbox as inside;
 
 use crate::line::{Line, Logged};
 use crate::net::Net;
@@ -42,7 +43,7 @@ impl Outbox {
 
     /// Adds an event that a host made: its own, or for another one.
     fn add_event(&mut self, net: &Net, host: u32, event: Event) -> Result<(), NoMemory>
-        ensures { OnOk result (spec.AddsEvent net.now host event self.old self.new) }
+        ensures { OnOk result (inside.AddsEvent net.now host event self.old self.new) }
     {
         let to = net.home(&event);
         if to == host {
@@ -55,7 +56,7 @@ impl Outbox {
 
     /// Adds the packet of an event that fires at another host.
     fn post(&mut self, to: u32, event: Event) -> Result<(), NoMemory>
-        ensures { OnOk result (spec.Posts to event self.old self.new) }
+        ensures { OnOk result (inside.Posts to event self.old self.new) }
     {
         let Event { key, what } = event;
         match what {
@@ -70,7 +71,7 @@ impl Outbox {
 
     /// Adds the events that a host made.
     fn add_events(&mut self, net: &Net, host: u32, events: Vec<Event>) -> Result<(), NoMemory>
-        ensures { OnOk result (spec.AddsEvents net.now host events.items self.old self.new) }
+        ensures { OnOk result (inside.AddsEvents net.now host events.items self.old self.new) }
     {
         for event in events {
             self.add_event(net, host, event)?;
@@ -80,7 +81,7 @@ impl Outbox {
 
     /// Adds lines of the log, which are from the firing of an event.
     fn add_lines(&mut self, key: Key, lines: Vec<Line>) -> Result<(), NoMemory>
-        ensures { OnOk result (spec.AddsLines key lines.items self.old self.new) }
+        ensures { OnOk result (inside.AddsLines key lines.items self.old self.new) }
     {
         for line in lines {
             self.lines.push(Logged { key, line })?;
@@ -90,7 +91,7 @@ impl Outbox {
 
     /// Adds what processes wrote.
     fn add_outputs(&mut self, outputs: Vec<Output>) -> Result<(), NoMemory>
-        ensures { OnOk result (spec.AddsOutputs outputs.items self.old self.new) }
+        ensures { OnOk result (inside.AddsOutputs outputs.items self.old self.new) }
     {
         let mut outputs = outputs;
         self.outputs.append(&mut outputs)?;

@@ -10,7 +10,8 @@ use Rattle.host_sockets.specs.declared.sockets.Sockets.{Sockets}
 use Rattle.host_sockets.specs.declared.tcp_sock.TcpSock.{TcpSock}
 use Rattle.host_sockets.specs.TcpSocket.{TcpSocket}
 use Rattle.host_sockets.specs.Sockets.{SocketsRecord, tcp_at}
-use Rattle.host_sockets.specs.StandsFor.{SocketStands, Stand, Asks}
+use Rattle.host_sockets.specs.StandsFor.{SocketStands, Stand}
+use Rattle.host_sockets.specs.inside.StandsFor.{Asks}
 use Rattle.host_sockets.proofs.Places.{same_length}
 use Rattle.host_sockets.proofs.SocketActs.{socket_there, asked_none}
 

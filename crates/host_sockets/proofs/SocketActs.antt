@@ -16,7 +16,8 @@ use Rattle.host_sockets.specs.Sockets.{SocketsRecord, tcp_at, with_tcp, changes_
 use Rattle.host_sockets.specs.declared.glance.Glance.{Glance}
 use Rattle.host_sockets.specs.Rises.{tcp_glance, moved_at}
 use Rattle.host_sockets.specs.TcpActs.{Acted, acts_in, acts_at}
-use Rattle.host_sockets.specs.StandsFor.{SocketStands, AllStand, Stand, Brings, Leaves}
+use Rattle.host_sockets.specs.StandsFor.{SocketStands, AllStand, Stand, Leaves}
+use Rattle.host_sockets.specs.inside.StandsFor.{Brings}
 use Rattle.host_sockets.proofs.Endings.{ActEnds}
 use Rattle.host_sockets.proofs.Places.{socket_at, no_socket_at, stands_at, stands_set}
 

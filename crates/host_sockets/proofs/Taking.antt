@@ -31,8 +31,10 @@ use Rattle.host_wants.specs.Wanted.{Wanted, sends, draws_word}
 use Rattle.host_sockets.specs.TcpSocket.{TcpSocket}
 use Rattle.host_sockets.specs.Sockets.{SocketsRecord, changes_at, changes_in}
 use Rattle.host_sockets.specs.ListenerActs.{with_listen, with_timers, timers_kept, timer_starts, heard}
-use Rattle.host_sockets.specs.Accepting.{accepts_in, accepts_of, accepts_at, given_up, placed, TakesConn, TakesAt}
-use Rattle.host_sockets.specs.StandsFor.{SocketStands, ListenerStands, AllStand, Stand, Brings, Becomes}
+use Rattle.host_sockets.specs.Accepting.{accepts_in, accepts_of, accepts_at, given_up, placed}
+use Rattle.host_sockets.specs.inside.Accepting.{TakesConn, TakesAt}
+use Rattle.host_sockets.specs.StandsFor.{SocketStands, ListenerStands, AllStand, Stand, Becomes}
+use Rattle.host_sockets.specs.inside.StandsFor.{Brings}
 use Rattle.host_sockets.proofs.Endings.{ActEnds}
 use Rattle.host_sockets.proofs.Places.{no_socket_at, socket_same, stands_set}
 use Rattle.host_sockets.proofs.SocketActs.{socket_there, stand_with}

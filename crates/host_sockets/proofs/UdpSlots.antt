@@ -13,7 +13,8 @@ use Rattle.host_sockets.specs.declared.glance.Glance.{Glance}
 use Rattle.host_sockets.specs.Rises.{udp_glance, slot_glance, moved_at}
 use Rattle.host_sockets.specs.Sockets.{SocketsRecord}
 use Rattle.host_sockets.specs.StandsFor.{AllStand, Stand, Becomes}
-use Rattle.host_sockets.specs.Udp.{udp_in, socket_in, with_udp, udp_acts, acted_udp, SlotDoes}
+use Rattle.host_sockets.specs.Udp.{udp_in, socket_in, with_udp, udp_acts, acted_udp}
+use Rattle.host_sockets.specs.inside.Udp.{SlotDoes}
 use Rattle.host_sockets.specs.Arriving.{slot_arrives, datagram_in}
 use Rattle.host_sockets.proofs.Endings.{UdpActEnds, same_moved}
 

@@ -1,21 +1,16 @@
 -- accept(2)
 use Rattle.std.specs.Prelude.{ℕ, true, slice_get, Option, Some, None, is_none, Result, Ok}
 use Rattle.sim_base.specs.declared.errno.Errno.TheVariants.{Einval}
-use Rattle.sim_base.specs.Refusals.{◌>>=◌, ◌>>◌, refuse_if, or_refuse}
-use Rattle.sock_tcp.specs.declared.connection.conn.Conn.{Conn}
-use Rattle.sock_tcp.specs.connection.StandsFor.{StandsFor}
+use Rattle.sim_base.specs.Refusals.{refuse_if, or_refuse, ◌>>=◌, ◌>>◌}
 use Rattle.sock_tcp.specs.connection.Tcb.{Tcb}
 use Rattle.sock_tcp.specs.listener.Listen.{Listen, accepts}
 use Rattle.host_wants.specs.declared.error.Refusal.{Refusal}
 use Rattle.host_wants.specs.declared.error.Refusal.TheVariants as refusal
 use Rattle.host_sockets.specs.declared.reply.Accepted.{Accepted}
-use Rattle.host_sockets.specs.declared.sockets.Sockets.{Sockets}
-use Rattle.host_sockets.specs.declared.tcp_sock.TcpSock.{TcpSock}
 use Rattle.host_wants.specs.Refusals.{waits_if}
 use Rattle.host_sockets.specs.TcpSocket.{TcpSocket, fresh, with_tcb}
 use Rattle.host_sockets.specs.ListenerActs.{with_listen, with_timers, timers_kept}
 use Rattle.host_sockets.specs.Sockets.{SocketsRecord, tcp_at, changes_at, tcp_place, put_tcp}
-use Rattle.host_sockets.specs.StandsFor.{SocketStands, Stand}
 
 -- what refuses at once: a socket that doesn't listen
 abbrev pub accept_asked : ℕ → SocketsRecord → Result (Unit {0}) Refusal
@@ -59,17 +54,3 @@ accepts_tcp k t = do
   accept_asked k t
   (r, rest) ← or_refuse (accepts_at k t) (refusal.Wait None)
   Ok (placed r (changes_at k (given_up r rest) t))
-
--- what the code's socket gives: that connection, if there is one
-abbrev pub TakesConn : Option (Tcb × Listen) → TcpSocket → Option Conn → TcpSock → Type 0
-TakesConn None s None c = SocketStands c s
-TakesConn None s (Some conn) c = ⊥
-TakesConn (Some (r, rest)) s None c = ⊥
-TakesConn (Some (r, rest)) s (Some conn) c = StandsFor conn r × SocketStands c (given_up r rest s)
-
--- and of the socket with a number
-abbrev pub TakesAt : Option (Tcb × Listen) → ℕ → SocketsRecord → Option Conn → Sockets → Type 0
-TakesAt None k t None c = Stand c t
-TakesAt None k t (Some conn) c = ⊥
-TakesAt (Some (r, rest)) k t None c = ⊥
-TakesAt (Some (r, rest)) k t (Some conn) c = StandsFor conn r × Stand c (changes_at k (given_up r rest) t)

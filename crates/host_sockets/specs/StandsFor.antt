@@ -1,13 +1,11 @@
 -- what the code's sockets stand for. Of the records that were let go it keeps what they carried
-use Rattle.std.specs.Prelude.{◌≡◌, List, map, Result, Ok, Err}
+use Rattle.std.specs.Prelude.{◌≡◌, map, Result, Ok, Err}
 use Rattle.sim_base.specs.declared.act.Act.{Act}
-use Rattle.sock_tcp.specs.declared.connection.carried.Carried.{Carried}
-use Rattle.sock_tcp.specs.connection.Carried.{carried_of, with_gone}
+use Rattle.sock_tcp.specs.connection.Carried.{carried_of}
 use Rattle.host_wants.specs.declared.error.CallError.{CallError}
 use Rattle.host_wants.specs.declared.error.CallError.TheVariants as error
 use Rattle.host_wants.specs.declared.error.Refusal.{Refusal}
 use Rattle.host_sockets.specs.declared.sockets.Sockets.{Sockets}
-use Rattle.host_sockets.specs.declared.tcp_sock.TcpSock.{TcpSock}
 pub use Rattle.host_sockets.specs.SocketsStand.{ConnStands, ListenerStands, SocketStands, AllStand}
 use Rattle.host_wants.specs.Wanted.{Wanted}
 use Rattle.host_sockets.specs.Sockets.{SocketsRecord}
@@ -21,12 +19,6 @@ pub record Stand (c : Sockets) (t : SocketsRecord) : Type 0 where
   pub tcp_risen : c.tcp_risen.items ≡ t.tcp_risen
   pub gone : c.gone.items ≡ map carried_of t.gone
 
--- an act on a socket leaves this. What was kept of records that are gone is followed by those that it lets go
-pub record Brings (c : TcpSock) (w : Wanted) (before left : List Carried) (a : Acted) : Type 0 where
-  pub socket : SocketStands c a.socket
-  pub wanted : w ≡ a.wanted
-  pub gone : left ≡ with_gone a.gone before
-
 -- a call that can't refuse leaves this
 pub record Leaves (c : Sockets) (w : Wanted) (after : SocketsRecord × Wanted) : Type 0 where
   pub sockets : Stand c after.0
@@ -35,12 +27,6 @@ pub record Leaves (c : Sockets) (w : Wanted) (after : SocketsRecord × Wanted) :
 -- the same with what the packet log tells
 abbrev pub Delivers : Act → Sockets → Wanted → Act × (SocketsRecord × Wanted) → Type 0
 Delivers act c w told = (act ≡ told.0) × Leaves c w told.1
-
--- what is asked, changes nothing and takes memory
-abbrev pub Asks : {A : Type 0} → Result A Refusal → Result A CallError → Type 0
-Asks row (Ok a) = row ≡ Ok a
-Asks row (Err (error.Refused refusal)) = row ≡ Err refusal
-Asks row (Err error.NoMemory) = Unit {0}
 
 -- a call answers as its row does: what it leaves, if it is done, or else nothing has changed. After want of memory nothing is
 -- known

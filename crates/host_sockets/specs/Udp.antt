@@ -1,5 +1,5 @@
 -- the calls on UDP sockets, beside those of a socket alone: which sockets it has around it
-use Rattle.std.specs.Prelude.{◌≡◌, ℕ, Bool, not, ◌||◌, nat_lt, List, [], ◌∷◌, length, take, slice_get, slice_set, Option, Some, None, is_some, is_none, Result, Ok, Err}
+use Rattle.std.specs.Prelude.{ℕ, Bool, not, ◌||◌, nat_lt, List, ◌∷◌, length, take, slice_get, slice_set, Option, Some, None, is_some, is_none, Result, Ok, Err, []}
 use Rattle.std.specs.List.{flat_map, position_or_len}
 use Rattle.sim_base.specs.declared.address.Ip.{Ip}
 use Rattle.sim_base.specs.declared.address.Addr.{Addr}
@@ -7,12 +7,10 @@ use Rattle.sim_base.specs.declared.errno.Errno.TheVariants.{Ebadf, Emsgsize, Ede
 use Rattle.sim_base.specs.declared.packet.Packet.{Packet}
 use Rattle.sim_base.specs.Packet.{max_datagram}
 use Rattle.sim_base.specs.Addresses.{Surroundings}
-use Rattle.sim_base.specs.Refusals.{◌>>=◌, ◌>>◌, refuse_if, or_refuse}
+use Rattle.sim_base.specs.Refusals.{refuse_if, or_refuse, ◌>>=◌, ◌>>◌}
 use Rattle.host_fds.specs.Rises.{no_rises}
 use Rattle.sock_udp.specs.declared.datagram.Datagram.{Datagram}
 use Rattle.sock_udp.specs.Socket.{UdpState, new_socket, bind, connect, send}
-use Rattle.host_wants.specs.declared.error.CallError.{CallError}
-use Rattle.host_wants.specs.declared.error.CallError.TheVariants as error
 use Rattle.host_wants.specs.declared.error.Refusal.{Refusal}
 use Rattle.host_wants.specs.declared.error.Refusal.TheVariants as refusal
 use Rattle.host_wants.specs.Refusals.{by_errno, waits_if}
@@ -121,17 +119,3 @@ receives_udp k count t = udp_acts (λ u. oldest_datagram u u.waiting count) k t
 -- whether the socket with a number is bound
 abbrev pub udp_bound : ℕ → SocketsRecord → Bool
 udp_bound k t = is_some (local_in (udp_in k t))
-
--- what the code does in a socket's place
-abbrev pub SlotDoes : {A : Type 0} → (UdpState → Result (A × UdpState) Refusal) → Option UdpState → Option UdpState → Result A CallError → Type 0
-SlotDoes act None new (Ok a) = ⊥
-SlotDoes act None new (Err (error.Refused why)) = (why ≡ refusal.Errno Ebadf) × (new ≡ None)
-SlotDoes act None new (Err error.NoMemory) = Unit {0}
-SlotDoes act (Some u) new (Ok a) = (u' : UdpState) × ((act u ≡ Ok (a, u')) × (new ≡ Some u'))
-SlotDoes act (Some u) new (Err (error.Refused why)) = (act u ≡ Err why) × (new ≡ Some u)
-SlotDoes act (Some u) new (Err error.NoMemory) = Unit {0}
-
-abbrev pub GivesOldest : ℕ → UdpState → UdpState → Result Datagram CallError → Type 0
-GivesOldest count old new (Ok datagram) = oldest_datagram old old.waiting count ≡ Ok (datagram, new)
-GivesOldest count old new (Err (error.Refused why)) = (oldest_datagram old old.waiting count ≡ Err why) × (new ≡ old)
-GivesOldest count old new (Err error.NoMemory) = Unit {0}

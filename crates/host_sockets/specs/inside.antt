@@ -6,3 +6,6 @@ pub mod Indexing
 pub mod Lookup
 pub mod Made
 pub mod Told
+pub mod Accepting
+pub mod Udp
+pub mod StandsFor

@@ -62,7 +62,8 @@ impl Sockets {
     ghost use Rattle.sock_tcp.specs.connection.StandsFor.{StandsFor};
     ghost use Rattle.sock_tcp.specs.connection.Tcb.{Tcb};
     ghost use Rattle.host_sockets.specs.Sockets.{SocketsRecord};
-    ghost use Rattle.host_sockets.specs.Accepting.{accept_asked, accepts_at, accept_ready, placed, accepts_tcp, TakesAt};
+    ghost use Rattle.host_sockets.specs.Accepting.{accept_asked, accepts_at, accept_ready, placed, accepts_tcp};
+    ghost use Rattle.host_sockets.specs.inside.Accepting.{TakesAt};
     ghost use Rattle.host_sockets.specs.StandsFor.{Stand, Becomes};
 
     /// Whether the TCP socket with a number listens.

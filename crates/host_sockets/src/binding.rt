@@ -66,7 +66,8 @@ impl Sockets {
     ghost use Rattle.host_sockets.specs.Sockets.{SocketsRecord, changes_at};
     ghost use Rattle.host_sockets.specs.TcpSocket.{with_bound};
     ghost use Rattle.host_sockets.specs.Binding.{tcp_bound, bind_begun, bind_asked, binds_tcp, listen_begun, listen_asked, listening, listens_tcp};
-    ghost use Rattle.host_sockets.specs.StandsFor.{Stand, Asks, Becomes};
+    ghost use Rattle.host_sockets.specs.StandsFor.{Stand, Becomes};
+    ghost use Rattle.host_sockets.specs.inside.StandsFor.{Asks};
 
     /// Whether the TCP socket with a number is bound by `bind_tcp` or `listen_tcp`.
     pub fn bound_tcp(&self, k: usize) -> bool

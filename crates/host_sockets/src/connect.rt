@@ -12,7 +12,8 @@ impl Sockets {
     ghost use Rattle.host_sockets.specs.TcpActs.{acts_at};
     ghost use Rattle.host_sockets.specs.Connecting.{connect_begun, connect_asked, opens, connects, connects_taking, error_takes, connect_waited, connect_answers};
     ghost use Rattle.host_sockets.specs.Names.{takes_error, error_asked};
-    ghost use Rattle.host_sockets.specs.StandsFor.{Stand, Leaves, Answers, Asks};
+    ghost use Rattle.host_sockets.specs.StandsFor.{Stand, Leaves, Answers};
+    ghost use Rattle.host_sockets.specs.inside.StandsFor.{Asks};
 
     /// The error that the connection of the socket with a number kept is taken.
     pub(crate) fn take_error_at(

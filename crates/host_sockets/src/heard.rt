@@ -75,10 +75,12 @@ impl TcpSock {
     ghost use Rattle.sock_tcp.specs.listener.Listen.{Listen, Heard};
     ghost use Rattle.host_sockets.specs.TcpSocket.{TcpSocket};
     ghost use Rattle.host_sockets.specs.ListenerActs.{with_listen, with_timers, timers_kept, timer_starts, heard};
-    ghost use Rattle.host_sockets.specs.Accepting.{accepts_in, TakesConn};
+    ghost use Rattle.host_sockets.specs.Accepting.{accepts_in};
+    ghost use Rattle.host_sockets.specs.inside.Accepting.{TakesConn};
     ghost use Rattle.host_sockets.specs.Alarms.{kept_expires, socket_expires};
     ghost use Rattle.host_sockets.specs.Arriving.{listener_hears};
-    ghost use Rattle.host_sockets.specs.StandsFor.{SocketStands, Brings};
+    ghost use Rattle.host_sockets.specs.StandsFor.{SocketStands};
+    ghost use Rattle.host_sockets.specs.inside.StandsFor.{Brings};
 
     /// A timer that an act on the connection of two ends started, if it did, is an alarm of the
     /// socket from then on.

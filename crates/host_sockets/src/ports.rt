@@ -59,7 +59,8 @@ impl Sockets {
     ghost use Rattle.sim_base.specs.Addresses.{at_free_port, with_port, is_taken};
     ghost use Rattle.host_sockets.specs.Sockets.{SocketsRecord, bound_ends, tcp_ends, has_pair};
     ghost use Rattle.host_sockets.specs.Binding.{bound_to_use};
-    ghost use Rattle.host_sockets.specs.StandsFor.{Stand, Asks};
+    ghost use Rattle.host_sockets.specs.StandsFor.{Stand};
+    ghost use Rattle.host_sockets.specs.inside.StandsFor.{Asks};
 
     /// Whether a live connection has this pair of ends.
     pub(crate) fn has_pair(&self, own: Addr, other: Addr) -> bool

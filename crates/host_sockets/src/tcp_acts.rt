@@ -20,7 +20,8 @@ impl TcpSock {
     ghost use Rattle.host_sockets.specs.Connecting.{opens, error_takes};
     ghost use Rattle.host_sockets.specs.Moving.{count_taken, takes_written, bytes_given, gives_read};
     ghost use Rattle.host_sockets.specs.Arriving.{record_takes};
-    ghost use Rattle.host_sockets.specs.StandsFor.{SocketStands, Brings};
+    ghost use Rattle.host_sockets.specs.StandsFor.{SocketStands};
+    ghost use Rattle.host_sockets.specs.inside.StandsFor.{Brings};
 
     /// Its connection takes a segment.
     pub(crate) fn arrive(

@@ -12,7 +12,8 @@ impl TcpSock {
     ghost use Rattle.host_sockets.specs.TcpSocket.{TcpSocket};
     ghost use Rattle.host_sockets.specs.TcpActs.{record_acts};
     ghost use Rattle.host_sockets.specs.Closing.{unheld, closed};
-    ghost use Rattle.host_sockets.specs.StandsFor.{SocketStands, Brings};
+    ghost use Rattle.host_sockets.specs.StandsFor.{SocketStands};
+    ghost use Rattle.host_sockets.specs.inside.StandsFor.{Brings};
 
     /// Its connection, if it has one, is closed.
     fn close_conn(

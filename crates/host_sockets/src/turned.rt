@@ -42,7 +42,8 @@ impl TcpSock {
     ghost use Rattle.host_wants.specs.Wanted.{Wanted};
     ghost use Rattle.host_sockets.specs.TcpSocket.{TcpSocket, with_tcb};
     ghost use Rattle.host_sockets.specs.TcpActs.{is_let_go, fresh_again, let_go, starts, turned};
-    ghost use Rattle.host_sockets.specs.StandsFor.{SocketStands, Brings};
+    ghost use Rattle.host_sockets.specs.StandsFor.{SocketStands};
+    ghost use Rattle.host_sockets.specs.inside.StandsFor.{Brings};
 
     /// The timer that an act started, if it did, is an alarm of the socket from then on.
     fn start_timer(

@@ -3,7 +3,8 @@
 ghost use Rattle.std.specs.Prelude.{◌≡◌, ◌≤◌, length, IfOk};
 ghost use Rattle.sock_udp.specs.Socket.{bound_at, connected, sent};
 ghost use Rattle.host_wants.specs.Refusals.{by_errno};
-ghost use Rattle.host_sockets.specs.Udp.{only_state, local_in, fits_in, recv_asked_in, oldest_datagram, SlotDoes, GivesOldest};
+ghost use Rattle.host_sockets.specs.Udp.{only_state, local_in, fits_in, recv_asked_in, oldest_datagram};
+ghost use Rattle.host_sockets.specs.inside.Udp.{SlotDoes, GivesOldest};
 ghost use Rattle.host_sockets.specs.Arriving.{slot_arrives};
 ghost use Rattle.host_sockets.specs.inside.Bindings.{ends_of_slot};
 ghost use Rattle.host_sockets.specs.Names.{udp_name_in, udp_peer_in};

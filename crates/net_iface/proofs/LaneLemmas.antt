@@ -11,7 +11,8 @@ use Rattle.net_iface.specs.declared.codel.CodelState.{CodelState}
 use Rattle.net_iface.specs.declared.lane.Taken.{Taken}
 use Rattle.net_iface.specs.declared.lane.Waiting.{Waiting}
 use Rattle.net_iface.specs.Bucket.{BucketState, paid}
-use Rattle.net_iface.specs.Lane.{LaneState, AllFit, IsLane, Left, waiting_size, waiting_bytes, treated, with_rest, popped, first_of, taken_as, taken_front, front_taken, none_left, with_taken, with_first, leaving}
+use Rattle.net_iface.specs.Lane.{LaneState, AllFit, IsLane, Left, waiting_size, waiting_bytes, treated, with_rest, taken_as, taken_front, none_left, with_taken, with_first, leaving}
+use Rattle.net_iface.specs.inside.Lane.{popped, first_of, front_taken}
 
 AllFit_push : (ws : List Waiting) (w : Waiting) → AllFit ws → waiting_size w ≤ max_packet → AllFit (ws ++ w ∷ [])
 AllFit_push [] w h small = (small, tt)

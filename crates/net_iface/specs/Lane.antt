@@ -1,5 +1,5 @@
 -- lanes of packets that wait for tokens (this project's own profile)
-use Rattle.std.specs.Prelude.{ℕ, ◌≡◌, ◌≤◌, nat_le, nat_lt, Bool, true, false, List, [], ◌∷◌, ◌++◌, length, sum_by, Option, Some, None, option_map, slice_get, if◌then◌else◌}
+use Rattle.std.specs.Prelude.{ℕ, ◌≡◌, ◌≤◌, nat_le, nat_lt, Bool, true, false, List, ◌∷◌, ◌++◌, length, sum_by, Option, Some, None, option_map, slice_get, if◌then◌else◌, []}
 use Rattle.sim_base.specs.declared.packet.Packet.{Packet}
 use Rattle.sim_base.specs.declared.time.Time.{Time}
 use Rattle.sim_base.specs.Packet.{packet_size}
@@ -95,22 +95,6 @@ taken_front now front behind = taken_as front (treated behind.rule now front.sin
 
 abbrev pub with_rest : LaneState → List Waiting → LaneState
 with_rest lane waiting = record lane { waiting = waiting }
-
--- the front comes out, if there is one
-abbrev pub popped : LaneState → List Waiting → Option Waiting × LaneState
-popped lane [] = (None, with_rest lane [])
-popped lane (front ∷ behind) = (Some front, with_rest lane behind)
-
-abbrev pub first_of : Taken × LaneState → Option Taken × LaneState
-first_of t = (Some t.0, t.1)
-
--- the front is taken where the tokens suffice for it
-abbrev pub front_taken : Time → LaneState → List Waiting → Option Taken × LaneState
-front_taken now lane [] = (None, with_rest lane [])
-front_taken now lane (front ∷ behind) =
-    if nat_le (waiting_size front) lane.bucket.tokens
-    then first_of (taken_front now front (with_rest lane behind))
-    else (None, with_rest lane (front ∷ behind))
 
 -- the packets that leave and those that are dropped, and what stays
 pub record Left : Type 0 where

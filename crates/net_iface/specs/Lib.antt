@@ -3,3 +3,4 @@ pub mod Bucket
 pub mod Codel
 pub mod Lane
 pub mod Root
+pub mod inside

@@ -3,7 +3,8 @@
 ghost use Rattle.std.specs.Prelude.{◌≡◌, ◌/◌, ◌<◌, ◌≤◌, ◌↔◌, [], length, option_map, slice_get, IfOk, OnOk, IfSome, OnSome, IsTrue};
 ghost use Rattle.sim_base.specs.Packet.{packet_size};
 ghost use Rattle.sim_base.specs.Units.{millisecond, latest_time};
-ghost use Rattle.net_iface.specs.Lane.{empty_lane, waiting_size, pushed, pushed_first, waits_in, treated, popped, front_taken, next_due, released};
+ghost use Rattle.net_iface.specs.Lane.{empty_lane, waiting_size, pushed, pushed_first, waits_in, treated, next_due, released};
+ghost use Rattle.net_iface.specs.inside.Lane.{popped, front_taken};
 
 use crate::bucket::Bucket;
 use crate::codel::{CodelState, LARGEST};

@@ -4,7 +4,8 @@ use Rattle.std.specs.Prelude.{◌⊎◌, option_map, slice_index}
 use Rattle.std.proofs.lemmas.Bool.{cases_lt}
 use Rattle.net_routes.specs.RouteMap.{RouteMap}
 use Rattle.net_routes.specs.Routes.{route_in}
-use Rattle.net_routes.specs.Least.{latency_of, IsPair, IsLatency, IsLeastIf, IsFromTo, IsFromFirst, lesser, IsLookahead}
+use Rattle.net_routes.specs.Least.{IsLookahead}
+use Rattle.net_routes.specs.inside.LeastSteps.{latency_of, IsPair, IsLatency, IsLeastIf, IsFromTo, IsFromFirst, lesser}
 use Rattle.net_routes.proofs.ListLemmas.{some_same}
 
 -- what is among the pairs is among the one or the other ones

@@ -5,7 +5,8 @@ use Rattle.std.proofs.lemmas.Bool.{cases_lt}
 use Rattle.net_routes.specs.RouteMap.{RouteMap}
 use Rattle.net_routes.specs.Needed.{IsAt, IsNeeded}
 use Rattle.net_routes.specs.Routes.{route_in, AreBetween, HasRoutes}
-use Rattle.net_routes.specs.Least.{latency_of, IsLeastIf, IsNeededLatency, IsNeededAt, IsNeededPair, IsNeededTo, IsNeededFirst, lesser, IsLookahead}
+use Rattle.net_routes.specs.Least.{IsLookahead}
+use Rattle.net_routes.specs.inside.LeastSteps.{latency_of, IsLeastIf, IsNeededLatency, IsNeededAt, IsNeededPair, IsNeededTo, IsNeededFirst, lesser}
 use Rattle.net_routes.proofs.ListLemmas.{some_same}
 use Rattle.net_routes.proofs.PlaceLemmas.{at_contains}
 use Rattle.net_routes.proofs.LeastLemmas.{AreBoth, least_both}

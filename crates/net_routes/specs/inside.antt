@@ -8,3 +8,4 @@ pub mod Places
 pub mod RouteRows
 pub mod RouteMaps
 pub mod Search
+pub mod LeastSteps

@@ -2,7 +2,8 @@
 
 ghost use Rattle.std.specs.Prelude.{◌≡◌, ◌<◌, ◌↔◌, Some, IsSome, IsTrue, option_map, length, All, Contains};
 ghost use Rattle.net_routes.specs.Routes.{route_in, AreBetween, HasRoutes};
-ghost use Rattle.net_routes.specs.Least.{lesser, IsLatency, IsLeastIf, IsFromTo, IsNeededLatency, IsNeededTo, IsLookahead};
+ghost use Rattle.net_routes.specs.Least.{IsLookahead};
+ghost use Rattle.net_routes.specs.inside.LeastSteps.{lesser, IsLatency, IsLeastIf, IsFromTo, IsNeededLatency, IsNeededTo};
 ghost use Rattle.net_routes.specs.inside.RouteMaps.{route_at};
 
 use crate::cost::Cost;

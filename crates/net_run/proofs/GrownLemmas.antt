@@ -24,7 +24,7 @@ use Rattle.file_calls.specs.Guest.{first_id}
 use Rattle.net_run.specs.Heads.{all_heads}
 use Rattle.net_run.specs.Pieces.{with_pieces}
 use Rattle.net_run.specs.Places.{is_place, bytes_at, is_touched}
-use Rattle.net_run.specs.Rest.{rest_in}
+use Rattle.net_run.specs.inside.Rest.{rest_in}
 use Rattle.net_run.specs.Shown.{run_pieces, captures_in}
 use Rattle.host_link.specs.Logs.{lines_of}
 use Rattle.net_run.specs.World.{World, opening_world}

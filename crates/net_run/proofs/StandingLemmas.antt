@@ -13,7 +13,7 @@ use Rattle.net_run.specs.Parts.{IsFrontOf, IsPrefix, Grows, Between}
 use Rattle.run_files.specs.Files.{Put}
 use Rattle.net_run.specs.Pieces.{with_pieces}
 use Rattle.net_run.specs.Places.{bytes_at, is_touched}
-use Rattle.net_run.specs.Rest.{rest_in}
+use Rattle.net_run.specs.inside.Rest.{rest_in}
 use Rattle.net_run.specs.Shown.{run_pieces}
 use Rattle.net_run.specs.World.{World}
 use Rattle.net_run.proofs.ContentLemmas.{added, at_places, by_place}

@@ -22,7 +22,8 @@ use Rattle.host_state.specs.Gains.{names_in}
 use Rattle.run_files.specs.Files.{Put, log_name}
 use Rattle.file_calls.specs.Guest.{first_id}
 use Rattle.net_run.specs.Rest as rest
-use Rattle.net_run.specs.Rest.{state_at, states_in, TellsStates, all_rest, rest_in, ending, summary_in, summary_rest}
+use Rattle.net_run.specs.Rest.{state_at, TellsStates, all_rest, ending, summary_in, summary_rest}
+use Rattle.net_run.specs.inside.Rest.{states_in, rest_in}
 use Rattle.net_run.specs.Shown.{files_named, unmet_by, named, named_log, status_by, status_of}
 use Rattle.host_link.specs.Logs.{lines_of}
 use Rattle.net_run.specs.World.{World, opening_world}

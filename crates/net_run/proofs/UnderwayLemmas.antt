@@ -15,7 +15,8 @@ use Rattle.net_run.specs.Heads.{all_heads}
 use Rattle.net_run.specs.Parts.{Between}
 use Rattle.run_files.specs.Files.{Put}
 use Rattle.net_run.specs.Pieces.{with_pieces}
-use Rattle.net_run.specs.Rest.{all_rest, rest_in, summary_in, TellsStates}
+use Rattle.net_run.specs.Rest.{all_rest, summary_in, TellsStates}
+use Rattle.net_run.specs.inside.Rest.{rest_in}
 use Rattle.net_run.specs.Shown.{run_pieces}
 use Rattle.net_run.specs.World.{World, opening_world}
 use Rattle.net_run.proofs.ExtendsLemmas.{gains_later}

@@ -25,7 +25,8 @@ use Rattle.run_files.specs.Files.{Put, program_of, log_name, expected_state}
 use Rattle.file_calls.specs.Guest.{first_id}
 use Rattle.net_run.specs.Places.{is_place, bytes_at, is_touched}
 use Rattle.net_run.specs.Rest as rest
-use Rattle.net_run.specs.Rest.{ending, rest_in, states_in, summary_in, summary_rest}
+use Rattle.net_run.specs.Rest.{ending, summary_in, summary_rest}
+use Rattle.net_run.specs.inside.Rest.{rest_in, states_in}
 use Rattle.net_run.specs.Shown.{name_of, named, named_log, log_file, host_files, captures_in, unmet, unmet_by, process_unmet, unmet_from, host_unmet, meets, summary, run_pieces}
 use Rattle.host_link.specs.Logs.{lines_of}
 use Rattle.net_run.specs.World.{World}

@@ -7,3 +7,4 @@ pub mod Grown
 pub mod Rest
 pub mod Parts
 pub mod Streams
+pub mod inside

@@ -1,15 +1,13 @@
 -- What is put when a run is over and its files have grown: the final states, the unmet expectations and the summary.
-use Rattle.std.specs.Prelude.{◌≡◌, ℕ, ◌+◌, List, [], ◌∷◌, ◌++◌, length, map, slice_get, Option, Some, None, unwrap_or, Bool, true, false}
+use Rattle.std.specs.Prelude.{◌≡◌, ℕ, ◌+◌, List, ◌∷◌, ◌++◌, length, slice_get, Option, Some, None, unwrap_or, Bool, true, false, []}
 use Rattle.run_outside.specs.declared.sink.Place.TheVariants as place
 use Rattle.sim_base.specs.declared.state.State.{State}
 use Rattle.sim_base.specs.declared.state.State.TheVariants.{NotStarted}
 use Rattle.host_state.specs.HostRecord.{HostRecord, process_state}
-use Rattle.guest_process.specs.States.{state_of}
 use Rattle.out_text.specs.Files.{state_line}
 use Rattle.out_text.specs.Summary.{summary_of, summary_line}
 use Rattle.out_text.specs.declared.summary.Summary.{Summary}
 use Rattle.run_files.specs.Listed.{HostNames, by_process, by_host}
-use Rattle.host_state.specs.Gains.{names_in}
 use Rattle.run_files.specs.Files.{Put, log_name}
 use Rattle.file_calls.specs.Guest.{first_id}
 use Rattle.net_run.specs.Shown.{files_named, unmet_by, named_log}
@@ -54,17 +52,10 @@ all_rest hosts states summary = hosts_rest hosts states ++ ending hosts states s
 
 -- ---- of a world
 
--- the states of a host's processes, in their order
-abbrev pub states_in : World → List (List State)
-states_in w = map (λ (h : HostRecord). map state_of h.processes) w.hosts
-
 -- for a self-load, what was sent, lost and received
 abbrev pub summary_in : Bool → World → Option Summary
 summary_in true w = Some (summary_of (length w.hosts) (named_log w))
 summary_in false w = None
-
-abbrev pub rest_in : Bool → World → List Put
-rest_in load w = all_rest (names_in w) (states_in w) (summary_in load w)
 
 -- the states of a host's processes as they are told, each by its place
 pub record TellsStates (h : HostRecord) (states : List State) : Type 0 where

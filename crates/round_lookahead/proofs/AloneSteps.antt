@@ -31,7 +31,8 @@ use Rattle.round_lookahead.specs.inside.Idles.{IsIdle}
 use Rattle.round_lookahead.specs.inside.Rounds.{AreWorks, AreRows, IsRound, all_parcels}
 use Rattle.round_lookahead.specs.Tasks.{IsTask, AreTasksOf}
 use Rattle.round_lookahead.specs.Took.{host_of, hosts_below}
-use Rattle.round_lookahead.specs.Works.{HostJob, IsDone, AreDone, HasRun, done_of, numbers, parcels_made}
+use Rattle.round_lookahead.specs.Works.{HostJob, IsDone, AreDone, numbers, parcels_made}
+use Rattle.round_lookahead.specs.inside.Works.{HasRun, done_of}
 use Rattle.round_lookahead.proofs.BackSteps.{flat_append}
 use Rattle.round_lookahead.proofs.DueSteps.{least_more}
 use Rattle.round_lookahead.proofs.IdleSteps.{idle_run, least_of}

@@ -28,7 +28,7 @@ use Rattle.round_lookahead.specs.inside.Arrivals.{Boxed, arrivals}
 use Rattle.round_lookahead.specs.inside.Dues.{first_due}
 use Rattle.round_lookahead.specs.inside.Idles.{IsIdle, is_busy}
 use Rattle.round_lookahead.specs.Tasks.{IsTask, waiting}
-use Rattle.round_lookahead.specs.Works.{HasRun}
+use Rattle.round_lookahead.specs.inside.Works.{HasRun}
 use Rattle.round_lookahead.proofs.DueSteps.{any_in, IsDue, IsFrom, least_both, least-one}
 
 -- ---- the first that is due

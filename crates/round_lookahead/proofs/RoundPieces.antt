@@ -15,7 +15,8 @@ use Rattle.round_lookahead.specs.declared.world.gained.Gained.{Gained}
 use Rattle.round_lookahead.specs.declared.world.pieces.Pieces.{Pieces}
 use Rattle.round_lookahead.specs.declared.world.took.Took.{Took}
 use Rattle.round_lookahead.specs.declared.world.world_state.World.{World}
-use Rattle.round_lookahead.specs.Gains.{HasTurns, HasGained, HasRound}
+use Rattle.round_lookahead.specs.Gains.{HasTurns, HasRound}
+use Rattle.round_lookahead.specs.inside.Gains.{HasGained}
 use Rattle.round_lookahead.specs.Took.{took_in}
 use Rattle.round_lookahead.specs.WorldStands.{HostWorld, nanos_of, WorldStands}
 use Rattle.round_lookahead.proofs.CountSteps.{lines_gained}

@@ -41,7 +41,8 @@ use Rattle.round_lookahead.specs.declared.world.world_state.World.{World}
 use Rattle.round_lookahead.specs.inside.Arrivals.{Boxed, arrivals}
 use Rattle.round_lookahead.specs.inside.Backs.{all_done, all_spilled, took_by, ids_of, row_arrivals, AreAtHome}
 use Rattle.round_lookahead.specs.Counts.{counts_of}
-use Rattle.round_lookahead.specs.Gains.{IsGained, IsTaken, HasTurns, HasGained, turns_from}
+use Rattle.round_lookahead.specs.Gains.{IsTaken, HasTurns, turns_from}
+use Rattle.round_lookahead.specs.inside.Gains.{IsGained, HasGained}
 use Rattle.round_lookahead.specs.inside.RoundsInPlace.{IsRoundInPlace}
 use Rattle.round_lookahead.specs.inside.Rounds.{IsRound, AreWorks, all_parcels}
 use Rattle.round_lookahead.specs.inside.Dues.{first_due}

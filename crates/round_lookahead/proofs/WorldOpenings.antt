@@ -27,7 +27,8 @@ use Rattle.round_lookahead.specs.declared.workers.host_task.HostTask.{HostTask}
 use Rattle.round_lookahead.specs.declared.world.world_state.World.{World}
 use Rattle.round_lookahead.specs.inside.Arrivals.{Boxed, arrivals}
 use Rattle.round_lookahead.specs.Counts.{counts_of}
-use Rattle.round_lookahead.specs.OpeningWorld.{AreHostRows, IsOpened, AreOpened, opening_world}
+use Rattle.round_lookahead.specs.OpeningWorld.{AreHostRows, IsOpened, opening_world}
+use Rattle.round_lookahead.specs.inside.OpeningWorld.{AreOpened}
 use Rattle.round_lookahead.specs.Tasks.{waiting}
 use Rattle.round_lookahead.specs.WorldStands.{nanos_of, HasRounds, IsBetweenRounds, StandsAt, WorldStands}
 

@@ -1,5 +1,5 @@
 -- What a round of the world gains, and who took which host.
-use Rattle.std.specs.Prelude.{◌≡◌, ℕ, suc, List, [], ◌∷◌, ◌++◌, map, flat_map, length, Any, IsPermutation, Some, slice_get}
+use Rattle.std.specs.Prelude.{◌≡◌, ℕ, suc, List, ◌∷◌, ◌++◌, map, flat_map, length, Any, IsPermutation, Some, []}
 use Rattle.sim_base.specs.declared.event.Event.{Event}
 use Rattle.sim_base.specs.declared.host.HostId.{HostId}
 use Rattle.list_weights.specs.Weights.{numbers_below}
@@ -11,10 +11,7 @@ use Rattle.run_files.specs.Files.{put_of}
 use Rattle.host_state.specs.Gains.{Gains, names_in}
 use Rattle.run_files.specs.Grown.{all_grown, with_bytes}
 use Rattle.run_files.specs.LinesFit.{AllFit}
-use Rattle.run_files.specs.Written.{written_in}
 use Rattle.host_state.specs.Fits.{model}
-use Rattle.host_state.specs.HostRecord.{HostRecord}
-use Rattle.host_state.specs.Running.{kept_line}
 use Rattle.world_order.specs.Round.{Going, Closed, opened}
 use Rattle.world_order.specs.Rounds.{after_round, IsSameWorld}
 use Rattle.world_order.specs.Schedule.{after_all}
@@ -23,19 +20,11 @@ use Rattle.world_order.specs.WholeTurns.{Turn, turn_of, job_steps}
 use Rattle.world_order.specs.Window.{window_end}
 use Rattle.world_order.specs.World as order
 use Rattle.world_order.specs.declared.step.Step.TheVariants.{Close}
-use Rattle.round_lookahead.specs.declared.world.gained.Gained.{Gained}
 use Rattle.round_lookahead.specs.declared.world.pieces.Pieces.{Pieces}
 use Rattle.round_lookahead.specs.declared.world.world_state.World.{World}
 use Rattle.round_lookahead.specs.Took.{took_in}
 use Rattle.round_lookahead.specs.Works.{HostJob}
 use Rattle.round_lookahead.specs.WorldStands.{HostWorld, WorldStands, nanos_of}
-
--- these outputs, each host's by its number, and these lines are what processes wrote and the log gained
-pub record IsGained (w v : HostWorld) (g : Gained) : Type 0 where
-  pub lines : map kept_line v.log ≡ map kept_line w.log ++ g.lines.items
-  pub count : length (written_in g.outputs) ≡ length w.hosts
-  pub outputs : (k : ℕ) (before after : HostRecord) (gained : List Output) → slice_get w.hosts k ≡ Some before → slice_get v.hosts k ≡ Some after
-      → slice_get (written_in g.outputs) k ≡ Some gained → after.written ≡ before.written ++ gained
 
 -- the places and bytes that outputs and log gained: what each process wrote, and the text of the lines, which are of packets whose numbers fit
 -- their types
@@ -71,11 +60,6 @@ pub record HasTurns (old new : World) (workers : ℕ) (w v : HostWorld) (took : 
   pub over : AreDueFrom (window_end (nanos_of old.lookahead) old.net.stop.nanos least) v.events
   pub stands : WorldStands new v
   pub taken : IsTaken old.net (window_end (nanos_of old.lookahead) old.net.stop.nanos least) workers w v took
-
--- a round, and what outputs and log gained
-pub record HasGained (old new : World) (workers : ℕ) (w v : HostWorld) (g : Gained) : Type 0 where
-  pub turns : HasTurns old new workers w v (took_in g.took)
-  pub gained : IsGained w v g
 
 -- a round, and what was gained as places and bytes
 pub record HasRound (old new : World) (workers : ℕ) (w v : HostWorld) (p : Pieces) : Type 0 where

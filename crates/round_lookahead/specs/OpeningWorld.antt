@@ -1,5 +1,5 @@
 -- Where a run begins.
-use Rattle.std.specs.Prelude.{◌≡◌, ℕ, List, [], ◌∷◌, length, Some, slice_get}
+use Rattle.std.specs.Prelude.{◌≡◌, ℕ, List, length, Some, slice_get, []}
 use Rattle.host_link.specs.Net.{Net}
 use Rattle.host_rows.specs.declared.row.Row.{Row}
 use Rattle.host_state.specs.Fits.{FitsNet}
@@ -18,10 +18,3 @@ pub record IsOpened (row : Row) (t : HostTask) : Type 0 where
   pub id : t.id ≡ row.host
   pub host : Begins row t.host.value
   pub parcels : t.parcels.items ≡ []
-
--- row by row
-abbrev pub AreOpened : List Row → List HostTask → Type 0
-AreOpened [] [] = Unit {0}
-AreOpened [] (t ∷ ts) = ⊥
-AreOpened (row ∷ rows) [] = ⊥
-AreOpened (row ∷ rows) (t ∷ ts) = IsOpened row t × AreOpened rows ts

@@ -1,11 +1,10 @@
 -- What a worker leaves.
-use Rattle.std.specs.Prelude.{◌≡◌, ℕ, ◌≤◌, List, [], ◌∷◌, ◌++◌, map, All, Some, slice_get, IsPermutation}
+use Rattle.std.specs.Prelude.{◌≡◌, ℕ, ◌≤◌, List, ◌∷◌, ◌++◌, map, All, Some, slice_get, IsPermutation, []}
 use Rattle.sim_base.specs.declared.event.Event.{Event}
 use Rattle.sim_base.specs.declared.event.Parcel.{Parcel}
 use Rattle.host_inbox.specs.declared.entry.Entry.{Entry}
 use Rattle.host_link.specs.declared.line.Line.{Line}
 use Rattle.host_link.specs.Net.{Net}
-use Rattle.host_link.specs.declared.outbox.Outbox.{Outbox}
 use Rattle.host_state.specs.Fits.{model, IsEventOf}
 use Rattle.host_state.specs.HostRecord.{HostRecord}
 use Rattle.host_state.specs.HostStands.{Stands}
@@ -50,16 +49,6 @@ pub record IsRunOf (net : Net) (end number : ℕ) (t : HostTask) (h : HostRecord
   pub written : ran.host.written ≡ h.written ++ d.outputs.items
   pub events : All (IsEventOf net) ran.packets
   pub packets : map parcel_event (parcels_of net number ran.packets) ≡ ran.packets
-
--- the same, with the parcels that it made for other hosts
-pub record HasRun (net : Net) (end : ℕ) (t : HostTask) (h : HostRecord) (d : Done) (parcels : List Parcel) : Type 0 where
-  pub ran : Ran HostRecord Line
-  pub run : IsRunOf net end t.id.index t h ran d
-  pub made : parcels ≡ parcels_of net t.id.index ran.packets
-
--- a host that was run where it was, and what it handed out
-abbrev pub done_of : HostTask → Outbox → Done
-done_of t out = record { id = t.id; host = t.host; lines = out.lines; outputs = out.outputs }
 
 -- the worker did the job: its host is that of a task
 pub record IsDone (net : Net) (end worker : ℕ) (tasks : List HostTask) (rec : ℕ → HostRecord) (job : HostJob) (d : Done) : Type 0 where

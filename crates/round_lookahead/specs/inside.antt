@@ -10,3 +10,6 @@ pub mod Rounds
 pub mod RoundsInPlace
 pub mod Settles
 pub mod Waits
+pub mod Gains
+pub mod OpeningWorld
+pub mod Works

@@ -8,7 +8,8 @@ use Rattle.std.proofs.lemmas.List.{length-map}
 use Rattle.std.proofs.lemmas.Option.{slice_get_read}
 use Rattle.std.proofs.lemmas.List.Elements.{filter-append}
 use Rattle.sim_base.specs.declared.address.Ip.{Ip}
-use Rattle.run_files.specs.Captured.{captured_by, captured, captured_from, line_behind, line_by, with_line, host_captures, has_captures, files_by}
+use Rattle.run_files.specs.Captured.{captured_by, captured, captured_from, host_captures, files_by}
+use Rattle.run_files.specs.inside.Captured.{line_behind, line_by, with_line, has_captures}
 use Rattle.run_files.specs.Captures.{is_at, is_on_eth0, is_on_lo, is_there, eth0_of, lo_of, line_record, records_of}
 use Rattle.run_files.specs.Files.{Put}
 use Rattle.run_files.specs.Grown.{with_bytes}

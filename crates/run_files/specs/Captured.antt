@@ -1,9 +1,9 @@
 -- The two captures of each host that has them: the bytes that lines of the packet log bring into them.
-use Rattle.std.specs.Prelude.{ℕ, ◌+◌, List, [], ◌∷◌, ◌++◌, Option, Some, None, Bool, true, false, if◌then◌else◌}
+use Rattle.std.specs.Prelude.{ℕ, ◌+◌, List, ◌∷◌, ◌++◌, Option, Some, None, true, false, []}
 use Rattle.sim_base.specs.declared.address.Ip.{Ip}
 use Rattle.run_outside.specs.declared.sink.Place.TheVariants as place
 use Rattle.out_text.specs.Files.{capture_name}
-use Rattle.run_files.specs.Captures.{eth0_of, lo_of, is_on_eth0, is_on_lo, is_there, line_record, records_of}
+use Rattle.run_files.specs.Captures.{eth0_of, lo_of, records_of}
 use Rattle.run_files.specs.Files.{Put}
 use Rattle.run_files.specs.Listed.{HostNames, by_host}
 use Rattle.run_files.specs.declared.capture.Captured.{Captured}
@@ -21,17 +21,6 @@ captured number host lines = captured_by number host.address lines host.capture
 abbrev pub captured_from : ℕ → List HostNames → List Line → List Captured
 captured_from number [] lines = []
 captured_from number (host ∷ hosts) lines = captured number host lines ∷ captured_from (number + 1) hosts lines
-
--- one line more of a host
-abbrev pub line_behind : Bool → ℕ → Line → List ℕ → List ℕ
-line_behind here size line records = if here then records ++ line_record size line else records
-
-abbrev pub line_by : Ip → Line → Captured → Option ℕ → Captured
-line_by own line c None = c
-line_by own line c (Some size) = record { eth0 = line_behind (is_on_eth0 own line) size line c.eth0; lo = line_behind (is_on_lo own line) size line c.lo }
-
-abbrev pub with_line : HostNames → Line → Captured → Captured
-with_line host line c = line_by host.address line c host.capture
 
 -- the two files of a host, with these bytes
 abbrev pub capture_files : List ℕ → List ℕ → List ℕ → List Put
@@ -51,6 +40,3 @@ all_captures front hosts lines = by_host (host_captures front) hosts (captured_f
 -- nothing in front
 abbrev pub no_head : ℕ → List ℕ
 no_head size = []
-
-abbrev pub has_captures : HostNames → Bool
-has_captures host = is_there host.capture

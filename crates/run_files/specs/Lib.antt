@@ -5,3 +5,4 @@ pub mod Grown
 pub mod LinesFit
 pub mod Listed
 pub mod Written
+pub mod inside

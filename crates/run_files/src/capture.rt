@@ -5,6 +5,7 @@ ghost use Rattle.std.specs.List.{list_any};
 ghost use Rattle.run_outside.specs.declared.sink.Place.TheVariants as place;
 ghost use Rattle.out_text.specs.Files.{capture_name};
 ghost use Rattle.run_files.specs.Captured as spec;
+ghost use Rattle.run_files.specs.inside.Captured as inside;
 ghost use Rattle.run_files.specs.Captures as lines;
 ghost use Rattle.host_link.specs.declared.line.Line.{Line as LineRecord};
 ghost use Rattle.run_files.specs.Files.{put_of};
@@ -87,7 +88,7 @@ fn capture_line(
     captured: &mut Captured,
     line: &Line,
 ) -> Result<(), NoMemory>
-    ensures { OnOk result (captured.new ≡ spec.with_line (said host.now) line.now captured.old) }
+    ensures { OnOk result (captured.new ≡ inside.with_line (said host.now) line.now captured.old) }
 {
     let Some(size) = host.capture else {
         return Ok(());
@@ -201,7 +202,7 @@ fn push_all_captured(
 
 /// Whether any host captures.
 pub(crate) fn any_captures(hosts: &[HostListing]) -> bool
-    ensures { result ≡ list_any (λ host. spec.has_captures (said host)) hosts.now }
+    ensures { result ≡ list_any (λ host. inside.has_captures (said host)) hosts.now }
 {
     hosts.iter().any(|host| host.capture.is_some())
 }

@@ -20,7 +20,8 @@ use Rattle.yaml_tree.specs.Holds.{HoldsSaid}
 use Rattle.yaml_tree.specs.inside.Stack.{cut, measured}
 use Rattle.yaml_tree.specs.Tree.{Says, IsTree, HasTree, MayBegin, ValueMayBegin, KeyMayBegin, kind_of, IsKindAt, IsMisfit, IsRefused, IsFirstRefused, IsTreeOf, IsFaultOf}
 use Rattle.yaml_tree.specs.inside.Builder.{take_token, take_tokens, fault_of, judged_by, judged, read_line, read_lines, at_line, ReadsLine, fresh}
-use Rattle.yaml_tree.specs.Trees.{Holds, RootIsIn, IsReading, IsErrorOf, root_number}
+use Rattle.yaml_tree.specs.Trees.{Holds, IsErrorOf, root_number}
+use Rattle.yaml_tree.specs.inside.Trees.{RootIsIn, IsReading}
 use Rattle.yaml_tree.specs.declared.builder.Builder.{Builder}
 use Rattle.yaml_tokens.specs.declared.token.Token.{Token}
 use Rattle.yaml_tokens.specs.declared.token.Token.TheVariants.{Dash, Key, Scalar, Anchor, Alias, Bar, Body, Form, OddToken}

@@ -6,3 +6,4 @@ pub mod Numbers
 pub mod Outline
 pub mod Rows
 pub mod Stack
+pub mod Trees

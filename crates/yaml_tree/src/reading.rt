@@ -10,7 +10,8 @@ ghost use Rattle.yaml_tree.specs.Tree.{IsTreeOf, IsFaultOf, is_empty_document};
 ghost use Rattle.yaml_tree.specs.Written.{is_name};
 ghost use Rattle.std.specs.List.{list_all};
 ghost use Rattle.sim_base.specs.Ascii.{line_feed};
-ghost use Rattle.yaml_tree.specs.Trees.{Holds, RootIsIn, IsWhole, IsReading, IsErrorOf, error_at, is_empty};
+ghost use Rattle.yaml_tree.specs.Trees.{Holds, IsWhole, IsErrorOf, is_empty};
+ghost use Rattle.yaml_tree.specs.inside.Trees.{RootIsIn, IsReading, error_at};
 
 use crate::builder::Builder;
 use crate::fault::{FaultKind, Stop, TreeError, YamlFault};

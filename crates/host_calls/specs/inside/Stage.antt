@@ -8,7 +8,7 @@ use Rattle.file_calls.specs.Scene.{Local}
 use Rattle.host_calls.specs.declared.parts.Answer.{Answer}
 use Rattle.host_calls.specs.declared.stage.Stage.{Stage}
 use Rattle.host_calls.specs.declared.stage.View.{View}
-use Rattle.host_calls.specs.Calls.{SceneCalled}
+use Rattle.host_calls.specs.inside.Calls.{SceneCalled}
 use Rattle.host_calls.specs.Parts.{Scene, scene, Answers}
 
 -- the process, and what it shares

@@ -7,7 +7,7 @@ ghost use Rattle.host_link.specs.Parcels.{parcel_event};
 ghost use Rattle.world_order.specs.EventOrder.{AreApart};
 ghost use Rattle.round_lookahead.specs.inside.Arrivals.{arrivals};
 ghost use Rattle.round_lookahead.specs.Tasks.{IsTask};
-ghost use Rattle.round_lookahead.specs.Works.{HasRun, done_of};
+ghost use Rattle.round_lookahead.specs.inside.Works.{HasRun, done_of};
 
 use crate::workers::host_task::{HostTask, due_of};
 use crate::workers::worked::Done;

@@ -2,7 +2,8 @@
 ghost use Rattle.std.specs.Prelude.{◌≡◌, All, IfOk};
 ghost use Rattle.host_state.specs.Fits.{FitsNet};
 ghost use Rattle.run_files.specs.Listed.{HasIds, names_of};
-ghost use Rattle.round_lookahead.specs.OpeningWorld.{AreHostRows, AreOpened, IsOpened, opening_world};
+ghost use Rattle.round_lookahead.specs.OpeningWorld.{AreHostRows, IsOpened, opening_world};
+ghost use Rattle.round_lookahead.specs.inside.OpeningWorld.{AreOpened};
 ghost use Rattle.round_lookahead.specs.WorldStands.{HasRounds, WorldStands, nanos_of};
 
 use crate::workers::host_task::HostTask;

@@ -2,7 +2,8 @@
 ghost use Rattle.std.specs.Prelude.{◌≡◌, ◌≤◌, ◌<◌, ◌↔◌, true, false, Some, All, Any, IfOk, flat_map};
 ghost use Rattle.sim_base.specs.Limits.{most_workers};
 ghost use Rattle.event_order.specs.Events.{IsLeastDue};
-ghost use Rattle.round_lookahead.specs.Gains.{HasGained, HasRound};
+ghost use Rattle.round_lookahead.specs.Gains.{HasRound};
+ghost use Rattle.round_lookahead.specs.inside.Gains.{HasGained};
 ghost use Rattle.round_lookahead.specs.Tasks.{waiting};
 ghost use Rattle.round_lookahead.specs.WorldStands.{HostWorld, WorldStands};
 

@@ -1,5 +1,5 @@
 use Rattle.std.proofs.Common.{◌≡◌, ℕ, ◌+◌, length, Option, sym, subst, arith}
-use Rattle.net_routes.specs.Least.{IsLeastIf, IsFromTo}
+use Rattle.net_routes.specs.inside.LeastSteps.{IsLeastIf, IsFromTo}
 use Rattle.net_routes.proofs.LeastLemmas.{from_none, from_more}
 use Rattle.net_routes.proofs.table.Routes.least_from.Goals as goal
 

@@ -1,4 +1,4 @@
-use Rattle.net_routes.specs.Least.{IsLeastIf, IsFromTo}
+use Rattle.net_routes.specs.inside.LeastSteps.{IsLeastIf, IsFromTo}
 use Rattle.net_routes.proofs.table.Routes.least_from.Given as goal
 
 abbrev pub invariant-loop-other : goal.invariant-loop-other

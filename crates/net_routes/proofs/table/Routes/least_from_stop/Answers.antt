@@ -1,5 +1,5 @@
 use Rattle.std.proofs.Common.{◌≡◌, ℕ, ◌+◌, length, Option, sym, subst, arith}
-use Rattle.net_routes.specs.Least.{IsLeastIf, IsNeededTo}
+use Rattle.net_routes.specs.inside.LeastSteps.{IsLeastIf, IsNeededTo}
 use Rattle.net_routes.proofs.StopLemmas.{to_none, to_more}
 use Rattle.net_routes.proofs.table.Routes.least_from_stop.Goals as goal
 

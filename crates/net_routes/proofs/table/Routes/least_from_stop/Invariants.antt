@@ -1,4 +1,4 @@
-use Rattle.net_routes.specs.Least.{IsLeastIf, IsNeededTo}
+use Rattle.net_routes.specs.inside.LeastSteps.{IsLeastIf, IsNeededTo}
 use Rattle.net_routes.proofs.table.Routes.least_from_stop.Given as goal
 
 abbrev pub invariant-loop-to : goal.invariant-loop-to

@@ -1,5 +1,6 @@
 use Rattle.std.proofs.Common.{◌≡◌, ℕ, ◌+◌, length, Option, sym, subst, arith}
-use Rattle.net_routes.specs.Least.{IsLeastIf, IsFromFirst, IsLookahead}
+use Rattle.net_routes.specs.Least.{IsLookahead}
+use Rattle.net_routes.specs.inside.LeastSteps.{IsLeastIf, IsFromFirst}
 use Rattle.net_routes.proofs.LeastLemmas.{first_none, first_more, lookahead_least}
 use Rattle.net_routes.proofs.table.Routes.least_of_hosts.Goals as goal
 

@@ -1,5 +1,5 @@
 use Rattle.std.proofs.Common.{length}
-use Rattle.net_routes.specs.Least.{IsLeastIf, IsFromFirst}
+use Rattle.net_routes.specs.inside.LeastSteps.{IsLeastIf, IsFromFirst}
 use Rattle.net_routes.proofs.table.Routes.least_of_hosts.Given as goal
 
 abbrev pub invariant-loop-host : goal.invariant-loop-host

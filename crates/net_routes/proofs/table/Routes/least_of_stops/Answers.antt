@@ -1,5 +1,6 @@
 use Rattle.std.proofs.Common.{◌≡◌, ℕ, ◌+◌, length, Option, sym, subst, arith}
-use Rattle.net_routes.specs.Least.{IsLeastIf, IsNeededFirst, IsLookahead}
+use Rattle.net_routes.specs.Least.{IsLookahead}
+use Rattle.net_routes.specs.inside.LeastSteps.{IsLeastIf, IsNeededFirst}
 use Rattle.net_routes.proofs.StopLemmas.{stops_none, stops_more, stops_least}
 use Rattle.net_routes.proofs.table.Routes.least_of_stops.Goals as goal
 

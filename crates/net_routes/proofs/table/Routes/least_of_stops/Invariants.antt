@@ -1,5 +1,5 @@
 use Rattle.std.proofs.Common.{length}
-use Rattle.net_routes.specs.Least.{IsLeastIf, IsNeededFirst}
+use Rattle.net_routes.specs.inside.LeastSteps.{IsLeastIf, IsNeededFirst}
 use Rattle.net_routes.proofs.table.Routes.least_of_stops.Given as goal
 
 abbrev pub invariant-loop-from : goal.invariant-loop-from

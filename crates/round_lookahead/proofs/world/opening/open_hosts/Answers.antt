@@ -1,7 +1,7 @@
 use Rattle.std.proofs.Common.{◌≡◌, [], length, sym, subst, arith}
 use Rattle.std.proofs.lemmas.List.{nil_from_length}
 use Rattle.std.specs.Vec.Iter.{into_iter_items}
-use Rattle.round_lookahead.specs.OpeningWorld.{AreOpened}
+use Rattle.round_lookahead.specs.inside.OpeningWorld.{AreOpened}
 use Rattle.round_lookahead.proofs.WorldOpenings.{row_fits, opened_next, opened_all}
 use Rattle.round_lookahead.proofs.world.opening.open_hosts.Goals as goal
 

@@ -1,0 +1,2 @@
+-- what only contracts within the crate and proofs name
+pub mod Captured
