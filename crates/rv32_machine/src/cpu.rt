@@ -19,11 +19,14 @@ pub struct Cpu {
 impl Cpu {
     ghost use Rattle.rv32_machine.specs.Table.{register, with_register, is_reserved, advanced, sets};
 
+    // The place is read before the number is tested, so that both ways go on as one.
+    #[inline(always)]
     pub(crate) fn register(&self, number: usize) -> u32
         requires { number < register_count }
         ensures { result ≡ register number self.now }
     {
-        if number == 0 { 0 } else { self.x[number] }
+        let kept = self.x[number];
+        if number == 0 { 0 } else { kept }
     }
 
     pub(crate) fn set_register(&mut self, number: usize, value: u32)
