@@ -14,6 +14,8 @@ use sim_base::NoMemory;
 use std::alloc::Global;
 use std::marker::Model;
 
+const PAGE_SIZE: u32 = 4096;
+
 /// The number of the first page of the stack, which begins at 0xBFF00000, and how many it has.
 const STACK_FIRST: u32 = 0xBFF00;
 
@@ -122,27 +124,37 @@ impl Mem {
         ensures bad { OnErr result (store 1 self.old at value ≡ None) }
         ensures unchanged { OnErr result (self.new ≡ self.old) }
     {
-        self.table.put(at, &value.to_le_bytes())
+        self.table.put_within(at, &value.to_le_bytes())
     }
 
     /// Puts the 2 bytes of `value` at `at`, low byte first.
-    #[inline]
+    // Two arrays: that of the first way stays in a register.
+    #[inline(always)]
     pub fn store16(&mut self, at: u32, value: u16) -> Result<(), Bad>
         ensures ok { OnOk result (store 2 self.old at value ≡ Some self.new) }
         ensures bad { OnErr result (store 2 self.old at value ≡ None) }
         ensures unchanged { OnErr result (self.new ≡ self.old) }
     {
-        self.table.put(at, &value.to_le_bytes())
+        if at % PAGE_SIZE <= PAGE_SIZE - 2 {
+            self.table.put_within(at, &value.to_le_bytes())
+        } else {
+            self.table.copy_in(at, &value.to_le_bytes())
+        }
     }
 
     /// Puts the 4 bytes of `value` at `at`, low byte first.
-    #[inline]
+    // Two arrays: that of the first way stays in a register.
+    #[inline(always)]
     pub fn store32(&mut self, at: u32, value: u32) -> Result<(), Bad>
         ensures ok { OnOk result (store 4 self.old at value ≡ Some self.new) }
         ensures bad { OnErr result (store 4 self.old at value ≡ None) }
         ensures unchanged { OnErr result (self.new ≡ self.old) }
     {
-        self.table.put(at, &value.to_le_bytes())
+        if at % PAGE_SIZE <= PAGE_SIZE - 4 {
+            self.table.put_within(at, &value.to_le_bytes())
+        } else {
+            self.table.copy_in(at, &value.to_le_bytes())
+        }
     }
 
     /// Whether each of the `size` bytes from `at` on is mapped with the right. A span of no bytes

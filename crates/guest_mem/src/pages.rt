@@ -121,6 +121,8 @@ impl Pages {
     }
 
     /// A slot for a page that has none. Its bytes stay 0.
+    #[cold]
+    #[inline(never)]
     fn take_slot(&mut self, place: usize) -> usize
         requires place { place < self.old.count }
         requires none { slice_index (slots self.old.entries.items) place ≡ 0 }

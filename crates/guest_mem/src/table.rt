@@ -358,26 +358,6 @@ impl PageTable {
         place < self.known && self.pages.number(place) == number
     }
 
-    /// Puts `bytes` at `at`, in one page or over several, where each address may be written.
-    #[inline(always)]
-    pub fn put(&mut self, at: u32, bytes: &[u8]) -> Result<(), Bad>
-        requires some { 0 < length bytes.now }
-        ensures put { OnOk result
-            (mapped_cells (shown self.new.pages) ≡ put_all (mapped_cells (shown self.old.pages)) at bytes.now) }
-        ensures may { OnOk result
-            (IsSome (bytes_for Right.Write (length bytes.now) (mapped_cells (shown self.old.pages)) at)) }
-        ensures bad { OnErr result
-            (bytes_for Right.Write (length bytes.now) (mapped_cells (shown self.old.pages)) at ≡ None) }
-        ensures unchanged { OnErr result (self.new ≡ self.old) }
-        ensures kept { IsSameShape self.old self.new }
-    {
-        if bytes.len() <= (PAGE_SIZE - at % PAGE_SIZE) as usize {
-            self.put_within(at, bytes)
-        } else {
-            self.copy_in(at, bytes)
-        }
-    }
-
     /// Maps `count` pages of zeros behind those of the heap. Where memory is wanting, nothing changes.
     pub fn grow(&mut self, count: u32) -> Result<(), AllocError>
         requires few { self.old.pages.count + count ≤ max_pages }
