@@ -107,14 +107,15 @@ impl Mem {
         self.table.fetch(at, hint)
     }
 
-    /// The bytes of the page with this number, which may be executed.
+    /// The bytes of the page with this number, which may be executed. The page that the hint names is tried first; the answer
+    /// is the same for every hint.
     #[inline]
-    pub fn code(&self, number: u32) -> Option<&[u8]>
+    pub fn code(&self, number: u32, hint: &mut FetchHint) -> Option<&[u8]>
         requires { number < 2 ^ 20 }
         ensures { MatchOption result ((bytes : List ℕ) → ¬ (IsPage Right.Execute self.now.cells number bytes))
             (λ page. IsPage Right.Execute self.now.cells number page.now) }
     {
-        self.table.page(Right::Execute, number)
+        self.table.page(Right::Execute, number, hint)
     }
 
     /// Puts the 1 byte of `value` at `at`.

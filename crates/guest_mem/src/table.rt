@@ -108,14 +108,17 @@ impl PageTable {
         }
     }
 
-    /// The bytes of the page with this number, where it has the right.
+    /// The bytes of the page with this number, where it has the right. The page at the hint's place is tried first, and the
+    /// hint is the page's that was found.
     #[inline]
-    pub fn page(&self, right: Right, number: u32) -> Option<&[u8]>
+    pub fn page(&self, right: Right, number: u32, hint: &mut FetchHint) -> Option<&[u8]>
         requires { number < 2 ^ 20 }
         ensures { MatchOption result ((bytes : List ℕ) → ¬ (IsPage right (mapped_cells (shown self.now.pages)) number bytes))
             (λ page. IsPage right (mapped_cells (shown self.now.pages)) number page.now) }
     {
-        match self.within(right, PAGE_SIZE * number, PAGE_SIZE as usize) {
+        let at = PAGE_SIZE * number;
+        let found = self.hinted_place(at / PAGE_SIZE, hint);
+        match self.within_page(right, found, at, PAGE_SIZE as usize) {
             Some(page) => Some(page),
             None => None,
         }

@@ -10,7 +10,7 @@ ghost use Rattle.elf_load.specs.Room.{page_size, instruction_size};
 use crate::cpu::Cpu;
 use crate::quiet::run_quiet;
 use crate::steps::Steps;
-use guest_mem::{Mem, word_in};
+use guest_mem::{FetchHint, Mem, word_in};
 use std::sync::ledger::Ledger;
 
 const PAGE_SIZE: u32 = 4096;
@@ -27,6 +27,7 @@ pub(crate) struct Ahead {
 pub(crate) fn run_ahead<L: Ledger>(
     cpu: &mut Cpu,
     mem: &Mem,
+    hint: &mut FetchHint,
     most: u64,
     steps: &mut Steps<L>,
 ) -> Ahead
@@ -36,7 +37,7 @@ pub(crate) fn run_ahead<L: Ledger>(
     ensures next { IfSome result.next (λ word. load right.Execute instruction_size mem.now cpu.new.pc ≡ Some word) }
 {
     let number = cpu.pc / PAGE_SIZE;
-    let Some(page) = mem.code(number) else {
+    let Some(page) = mem.code(number, hint) else {
         return Ahead { ran: 0, next: None };
     };
     for ran in 0..most {

@@ -9,7 +9,7 @@ use crate::cpu::Cpu;
 use crate::execution::step_fetched;
 use crate::outcome::{Outcome, TurnEnd};
 use crate::steps::Steps;
-use guest_mem::Mem;
+use guest_mem::{FetchHint, Mem};
 use std::sync::ledger::Ledger;
 
 /// Runs instructions up to the first one that calls or traps, and at most `budget` of them. A budget of 0 is
@@ -23,9 +23,10 @@ pub fn turn<L: Ledger>(cpu: &mut Cpu, mem: &mut Mem, budget: u64, steps: &mut St
         (record { state = state cpu.new mem.new; end = result; ran = steps.new - steps.old }) }
     ensures within { steps.new ≤ steps.old + budget }
 {
+    let mut hint = FetchHint::new();
     let mut ran = 0;
     while ran < budget {
-        let ahead = run_ahead(cpu, mem, budget - ran, steps);
+        let ahead = run_ahead(cpu, mem, &mut hint, budget - ran, steps);
         steps.tell(ahead.ran);
         ran += ahead.ran;
         if ran == budget {
