@@ -1,25 +1,29 @@
 //! Instructions that leave the memory as it is, run one after another over the bytes of one page.
 
+ghost use Rattle.std.specs.Bool.{OnTrue};
 ghost use Rattle.std.specs.Prelude.{◌≡◌, ◌+◌, ◌-◌, ◌*◌, ◌^◌, ◌<◌, ◌≤◌, Some, IfSome, length};
 ghost use Rattle.guest_mem.specs.Memory.{Memory, IsPage, load};
 ghost use Rattle.guest_mem.specs.declared.right.Right.TheVariants as right;
 ghost use Rattle.rv32_machine.specs.Table.{state};
 ghost use Rattle.rv32_machine.specs.Turn.{turn, ran_before};
+ghost use Rattle.rv32_machine.specs.Word.{opcode};
 ghost use Rattle.elf_load.specs.Room.{page_size, instruction_size};
 
 use crate::cpu::Cpu;
 use crate::quiet::run_quiet;
 use crate::steps::Steps;
+use crate::word::opcode;
 use guest_mem::{FetchHint, Mem, word_in};
 use std::sync::ledger::Ledger;
 
 const PAGE_SIZE: u32 = 4096;
 
-/// How many instructions ran, and the word of the next one where it was fetched.
+/// How many instructions ran, the word of the next one where it was fetched, and whether that is known to be a store.
 #[derive(Clone, Copy)]
 pub(crate) struct Ahead {
     pub ran: u64,
     pub next: Option<u32>,
+    pub is_store: bool,
 }
 
 /// Runs at most `most` instructions, as long as they stand in the page of the first, leave the memory as it is and neither
@@ -35,19 +39,36 @@ pub(crate) fn run_ahead<L: Ledger>(
     ensures counted { steps.new ≡ steps.old + result.ran }
     ensures same { turn most (state cpu.old mem.now) ≡ ran_before result.ran (turn (most - result.ran) (state cpu.new mem.now)) }
     ensures next { IfSome result.next (λ word. load right.Execute instruction_size mem.now cpu.new.pc ≡ Some word) }
+    ensures store { OnTrue result.is_store (IfSome result.next (λ word. opcode word ≡ 0x23)) }
 {
     let number = cpu.pc / PAGE_SIZE;
     let Some(page) = mem.code(number, hint) else {
-        return Ahead { ran: 0, next: None };
+        return Ahead {
+            ran: 0,
+            next: None,
+            is_store: false,
+        };
     };
     for ran in 0..most {
         let Some(word) = word_at(page, number, cpu.pc) else {
-            return Ahead { ran, next: None };
+            return Ahead {
+                ran,
+                next: None,
+                is_store: false,
+            };
         };
+        if opcode(word) == 0x23 {
+            return Ahead {
+                ran,
+                next: Some(word),
+                is_store: true,
+            };
+        }
         if !run_quiet(word, cpu, mem) {
             return Ahead {
                 ran,
                 next: Some(word),
+                is_store: false,
             };
         }
         steps.tick();
@@ -55,6 +76,7 @@ pub(crate) fn run_ahead<L: Ledger>(
     Ahead {
         ran: most,
         next: None,
+        is_store: false,
     }
 }
 

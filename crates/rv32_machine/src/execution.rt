@@ -1,10 +1,12 @@
 //! One instruction.
 
 ghost use Rattle.std.specs.Prelude.{◌≡◌, Some, None, IfSome, MatchResult, OnOk, OnErr};
+ghost use Rattle.std.specs.Bool.{OnTrue};
 ghost use Rattle.guest_mem.specs.Memory.{Memory, load as load_of};
 ghost use Rattle.guest_mem.specs.declared.right.Right.TheVariants as right;
 ghost use Rattle.rv32_machine.specs.Encoding.{decoded};
 ghost use Rattle.rv32_machine.specs.Table.{insn, effect, executed, state, after, jumps, sets, following, loaded, stored};
+ghost use Rattle.rv32_machine.specs.Word.{opcode};
 ghost use Rattle.elf_load.specs.Room.{instruction_size};
 
 use crate::arithmetic::{is_taken, value};
@@ -14,13 +16,14 @@ use crate::encoding::decode;
 use crate::instruction::{Insn, Load, Store};
 use crate::outcome::Outcome;
 use crate::word::{
-    b_immediate, byte_extended, half_extended, i_immediate, is_aligned, j_immediate, rd, rs1, rs2,
-    s_immediate, u_immediate,
+    b_immediate, byte_extended, funct3, half_extended, i_immediate, is_aligned, j_immediate, rd,
+    rs1, rs2, s_immediate, u_immediate,
 };
 use guest_mem::{Bad, FetchHint, Mem};
 use sim_base::Signal;
 
 /// Runs the instruction at the program counter.
+#[inline(never)]
 #[tactic(auto, unfolding(crate::specs::Table::insn))]
 pub fn step(cpu: &mut Cpu, mem: &mut Mem) -> Outcome
     ensures { insn (state cpu.old mem.old) ≡ after cpu.new mem.new result }
@@ -32,20 +35,46 @@ pub fn step(cpu: &mut Cpu, mem: &mut Mem) -> Outcome
     }
 }
 
-/// The same, where the word may have been fetched before.
+/// The same, where the word may have been fetched before, and may be known to be a store.
+#[inline(always)]
 #[tactic(auto, unfolding(crate::specs::Table::insn))]
-pub(crate) fn step_fetched(fetched: Option<u32>, cpu: &mut Cpu, mem: &mut Mem) -> Outcome
-    requires { IfSome fetched (λ word. load_of right.Execute instruction_size mem.old cpu.old.pc ≡ Some word) }
+pub(crate) fn step_fetched(
+    fetched: Option<u32>,
+    is_store: bool,
+    cpu: &mut Cpu,
+    mem: &mut Mem,
+) -> Outcome
+    requires fetched { IfSome fetched (λ word. load_of right.Execute instruction_size mem.old cpu.old.pc ≡ Some word) }
+    requires store { OnTrue is_store (IfSome fetched (λ word. opcode word ≡ 0x23)) }
     ensures { insn (state cpu.old mem.old) ≡ after cpu.new mem.new result }
 {
     match fetched {
-        Some(word) => run_word(word, cpu, mem),
+        Some(word) => if is_store {
+            run_store(word, cpu, mem)
+        } else {
+            run_word(word, cpu, mem)
+        },
         None => step(cpu, mem),
     }
 }
 
-/// Runs the instruction that the word is.
+/// Runs the instruction that the word is, which is a store if any.
 #[inline(always)]
+fn run_store(word: u32, cpu: &mut Cpu, mem: &mut Mem) -> Outcome
+    requires { opcode word ≡ 0x23 }
+    ensures { executed (decoded word) word (state cpu.old mem.old) ≡ after cpu.new mem.new result }
+{
+    match funct3(word) {
+        0 => store_from(Store::Sb, word, cpu, mem),
+        1 => store_from(Store::Sh, word, cpu, mem),
+        2 => store_from(Store::Sw, word, cpu, mem),
+        _ => Outcome::Trap(Signal::SigIll),
+    }
+}
+
+/// Runs the instruction that the word is.
+// Few words come here, so that they stay out of the loop that runs the others.
+#[inline(never)]
 fn run_word(word: u32, cpu: &mut Cpu, mem: &mut Mem) -> Outcome
     ensures { executed (decoded word) word (state cpu.old mem.old) ≡ after cpu.new mem.new result }
 {
@@ -106,16 +135,7 @@ fn execute(insn: Insn, word: u32, cpu: &mut Cpu, mem: &mut Mem) -> Outcome
                 Err(_) => Outcome::Trap(Signal::SigSegv),
             }
         }
-        Insn::Store(kind) => {
-            let address = cpu.register(rs1(word)).wrapping_add(s_immediate(word));
-            match store(kind, mem, address, cpu.register(rs2(word))) {
-                Ok(()) => {
-                    cpu.go_on();
-                    Outcome::Next
-                }
-                Err(_) => Outcome::Trap(Signal::SigSegv),
-            }
-        }
+        Insn::Store(kind) => store_from(kind, word, cpu, mem),
         Insn::Fence | Insn::FenceI => {
             cpu.go_on();
             Outcome::Next
@@ -165,6 +185,21 @@ pub(crate) fn load(kind: Load, mem: &Mem, address: u32) -> Result<u32, Bad>
         Load::Lw => mem.load32(address),
         Load::Lbu => Ok(u32::from(mem.load8(address)?)),
         Load::Lhu => Ok(u32::from(mem.load16(address)?)),
+    }
+}
+
+/// Stores rs2.
+#[inline(always)]
+fn store_from(kind: Store, word: u32, cpu: &mut Cpu, mem: &mut Mem) -> Outcome
+    ensures { effect (Insn.Store kind) word (state cpu.old mem.old) ≡ after cpu.new mem.new result }
+{
+    let address = cpu.register(rs1(word)).wrapping_add(s_immediate(word));
+    match store(kind, mem, address, cpu.register(rs2(word))) {
+        Ok(()) => {
+            cpu.go_on();
+            Outcome::Next
+        }
+        Err(_) => Outcome::Trap(Signal::SigSegv),
     }
 }
 
