@@ -47,11 +47,11 @@ impl<L: Ledger> Steps<L> {
         self.book.add(&mut self.share, 1);
     }
 
-    /// So many instructions and one more are told.
+    /// So many instructions are told.
     pub(crate) fn tell(&mut self, ran: u64)
         ensures { self.new ≡ self.old }
     {
-        self.told = self.told.wrapping_add(ran).wrapping_add(1);
+        self.told = self.told.wrapping_add(ran);
     }
 
     /// About how many instructions ran in the turns so far. No clause speaks of it: it is for estimates.

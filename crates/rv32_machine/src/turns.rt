@@ -32,7 +32,12 @@ pub fn turn<L: Ledger>(cpu: &mut Cpu, mem: &mut Mem, budget: u64, steps: &mut St
         if ran == budget {
             return TurnEnd::Spent;
         }
+        // the next instruction stands in another page
+        if ahead.next.is_none() && ahead.ran > 0 {
+            continue;
+        }
         steps.tick();
+        steps.tell(1);
         ran += 1;
         match step_fetched(ahead.next, ahead.is_store, cpu, mem) {
             Outcome::Next => {}
