@@ -98,11 +98,11 @@ impl PageIndex {
         ensures { result ≡ place_in self.now number }
     {
         let table = self.root[number as usize / TABLE_LEN] as usize;
-        let place = self.places[table * TABLE_LEN + number as usize % TABLE_LEN];
-        if place == NO_PAGE {
+        let place = self.places[table * TABLE_LEN + number as usize % TABLE_LEN] as usize;
+        if place == NO_PAGE as usize {
             None
         } else {
-            Some(place as usize)
+            Some(place)
         }
     }
 }
