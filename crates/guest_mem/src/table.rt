@@ -68,11 +68,24 @@ impl PageTable {
         requires { number < 2 ^ 20 }
         ensures { result ≡ place_of (numbers (shown self.now.pages)) number }
     {
+        match self.index.find(number) {
+            Some(place) => Some(place),
+            None => self.heap_place(number),
+        }
+    }
+
+    /// The place of the heap's page with this number, which no other page has.
+    #[inline]
+    fn heap_place(&self, number: u32) -> Option<usize>
+        requires in_range { number < 2 ^ 20 }
+        requires none { place_in self.now.index number ≡ None }
+        ensures { result ≡ place_of (numbers (shown self.now.pages)) number }
+    {
         let after = number.wrapping_sub(self.heap) as usize;
         if after < self.pages.len() - self.fixed {
             Some(self.fixed + after)
         } else {
-            self.index.find(number)
+            None
         }
     }
 
