@@ -2,3 +2,4 @@ pub mod TableLaws
 pub mod TurnSteps
 pub mod TurnLaws
 mod Values
+pub mod Rows

@@ -57,18 +57,11 @@ pub(crate) fn run_ahead<L: Ledger>(
                 is_store: false,
             };
         };
-        if opcode(word) == 0x23 {
-            return Ahead {
-                ran,
-                next: Some(word),
-                is_store: true,
-            };
-        }
         if !run_quiet(word, cpu, mem) {
             return Ahead {
                 ran,
                 next: Some(word),
-                is_store: false,
+                is_store: opcode(word) == 0x23,
             };
         }
         steps.tick();

@@ -102,6 +102,7 @@ fn remu(a: u32, b: u32) -> u32
 }
 
 /// Whether the branch is taken, of rs1 and rs2.
+#[inline(always)]
 pub fn is_taken(branch: Branch, a: u32, b: u32) -> bool
     ensures { result ≡ is_taken branch a b }
 {

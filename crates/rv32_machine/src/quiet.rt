@@ -1,13 +1,12 @@
 //! The instructions that leave the memory as it is and neither call nor trap, each from its word at once.
 
-ghost use Rattle.std.specs.Prelude.{◌≡◌, if◌then◌else◌};
-ghost use Rattle.std.specs.Option.{option_map};
+ghost use Rattle.std.specs.Prelude.{◌≡◌, ◌+◌, ◌-◌, ◌*◌, ◌/◌, ◌%◌, ◌^◌, if◌then◌else◌};
 ghost use Rattle.std.specs.Bool.{OnTrue, OnFalse};
 ghost use Rattle.guest_mem.specs.Memory.{Memory};
-ghost use Rattle.rv32_machine.specs.Arithmetic.{sum, value as value_of};
-ghost use Rattle.rv32_machine.specs.Encoding.{branch_of, load_of, immediate_of, register_of, decoded};
+ghost use Rattle.rv32_machine.specs.Arithmetic.{sum};
+ghost use Rattle.rv32_machine.specs.Encoding.{decoded};
 ghost use Rattle.rv32_machine.specs.Table.{advanced, after, effect, executed, following, goes_on, jumps, sets, state};
-ghost use Rattle.rv32_machine.specs.Word.{funct3, funct7, b_immediate};
+ghost use Rattle.rv32_machine.specs.Word.{opcode, funct3, b_immediate};
 ghost use Rattle.rv32_machine.specs.declared.outcome.Outcome.TheVariants as outcome;
 
 use crate::arithmetic::{is_taken, value};
@@ -22,17 +21,118 @@ use guest_mem::Mem;
 
 /// Runs the instruction that the word is, where it leaves the memory as it is and neither calls nor traps. It answers
 /// whether it ran; where it didn't, nothing changes.
-// One jump by the opcode and one by funct3: neither an `Insn` nor an `Operation` is made at run time.
+// One jump by opcode and funct3 together: neither an `Insn` nor an `Operation` is made at run time.
 #[inline(always)]
 pub(crate) fn run_quiet(word: u32, cpu: &mut Cpu, mem: &Mem) -> bool
     ensures ran { OnTrue result (executed (decoded word) word (state cpu.old mem.now) ≡ after cpu.new mem.now outcome.Next) }
     ensures unchanged { OnFalse result (cpu.new ≡ cpu.old) }
 {
+    match row(word) {
+        0b000_00000 => loaded(Load::Lb, word, cpu, mem),
+        0b001_00000 => loaded(Load::Lh, word, cpu, mem),
+        0b010_00000 => loaded(Load::Lw, word, cpu, mem),
+        0b100_00000 => loaded(Load::Lbu, word, cpu, mem),
+        0b101_00000 => loaded(Load::Lhu, word, cpu, mem),
+        // the stores
+        0b000_01000 => false,
+        0b001_01000 => false,
+        0b010_01000 => false,
+        0b000_00100 => immediate(Operation::Add, word, cpu),
+        0b001_00100 => match funct7(word) {
+            0x00 => immediate(Operation::Sll, word, cpu),
+            _ => false,
+        },
+        0b010_00100 => immediate(Operation::Slt, word, cpu),
+        0b011_00100 => immediate(Operation::Sltu, word, cpu),
+        0b100_00100 => immediate(Operation::Xor, word, cpu),
+        0b101_00100 => match funct7(word) {
+            0x00 => immediate(Operation::Srl, word, cpu),
+            0x20 => immediate(Operation::Sra, word, cpu),
+            _ => false,
+        },
+        0b110_00100 => immediate(Operation::Or, word, cpu),
+        0b111_00100 => immediate(Operation::And, word, cpu),
+        0b000_01100 => match funct7(word) {
+            0x00 => register(Operation::Add, word, cpu),
+            0x01 => register(Operation::Mul, word, cpu),
+            0x20 => register(Operation::Sub, word, cpu),
+            _ => false,
+        },
+        0b001_01100 => match funct7(word) {
+            0x00 => register(Operation::Sll, word, cpu),
+            0x01 => register(Operation::Mulh, word, cpu),
+            _ => false,
+        },
+        0b010_01100 => match funct7(word) {
+            0x00 => register(Operation::Slt, word, cpu),
+            0x01 => register(Operation::Mulhsu, word, cpu),
+            _ => false,
+        },
+        0b011_01100 => match funct7(word) {
+            0x00 => register(Operation::Sltu, word, cpu),
+            0x01 => register(Operation::Mulhu, word, cpu),
+            _ => false,
+        },
+        0b100_01100 => match funct7(word) {
+            0x00 => register(Operation::Xor, word, cpu),
+            0x01 => register(Operation::Div, word, cpu),
+            _ => false,
+        },
+        0b101_01100 => match funct7(word) {
+            0x00 => register(Operation::Srl, word, cpu),
+            0x01 => register(Operation::Divu, word, cpu),
+            0x20 => register(Operation::Sra, word, cpu),
+            _ => false,
+        },
+        0b110_01100 => match funct7(word) {
+            0x00 => register(Operation::Or, word, cpu),
+            0x01 => register(Operation::Rem, word, cpu),
+            _ => false,
+        },
+        0b111_01100 => match funct7(word) {
+            0x00 => register(Operation::And, word, cpu),
+            0x01 => register(Operation::Remu, word, cpu),
+            _ => false,
+        },
+        0b000_11000 => branch(Branch::Beq, word, cpu),
+        0b001_11000 => branch(Branch::Bne, word, cpu),
+        0b100_11000 => branch(Branch::Blt, word, cpu),
+        0b101_11000 => branch(Branch::Bge, word, cpu),
+        0b110_11000 => branch(Branch::Bltu, word, cpu),
+        0b111_11000 => branch(Branch::Bgeu, word, cpu),
+        0b000_11001 => {
+            let target = cpu.register(rs1(word)).wrapping_add(i_immediate(word));
+            linked(word, target / 2 * 2, cpu)
+        }
+        _ => run_long(word, cpu),
+    }
+}
+
+/// The place of the word's row in a table by opcode and funct3: funct3 in front of the upper five bits of the opcode. The
+/// lower two bits of an opcode are 3; where they aren't, the place is above all rows.
+#[inline(always)]
+fn row(word: u32) -> u32
+    ensures opcode { opcode word ≡ (result % 2 ^ 5 * 4 + result / 2 ^ 30 + 3) % 2 ^ 7 }
+    ensures funct3 { funct3 word ≡ result % 2 ^ 30 / 2 ^ 5 }
+{
+    turned_opcode(word) + (funct3(word) << 5u32)
+}
+
+/// The upper five bits of the opcode, above which its lower two stand, counted from 3 on.
+#[inline(always)]
+fn turned_opcode(word: u32) -> u32
+    ensures { result ≡ (opcode word + (2 ^ 7 - 3)) % 2 ^ 7 / 4 + (opcode word + (2 ^ 7 - 3)) % 2 ^ 7 % 4 * 2 ^ 30 }
+{
+    ((opcode(word) + 0x7d) % 0x80).rotate_right(2)
+}
+
+/// The instructions with an immediate of 20 bits, where others have funct3.
+#[inline(always)]
+fn run_long(word: u32, cpu: &mut Cpu) -> bool
+    ensures ran { OnTrue result ((m : Memory) → executed (decoded word) word (state cpu.old m) ≡ after cpu.new m outcome.Next) }
+    ensures unchanged { OnFalse result (cpu.new ≡ cpu.old) }
+{
     match opcode(word) {
-        0x13 => immediate(word, cpu),
-        0x33 => register(word, cpu),
-        0x63 => branch(word, cpu),
-        0x03 => load_kind(word, cpu, mem),
         0x37 => {
             cpu.compute(word, u_immediate(word));
             true
@@ -46,126 +146,40 @@ pub(crate) fn run_quiet(word: u32, cpu: &mut Cpu, mem: &Mem) -> bool
             let target = cpu.pc.wrapping_add(j_immediate(word));
             linked(word, target, cpu)
         }
-        0x67 => match funct3(word) {
-            0 => {
-                let target = cpu.register(rs1(word)).wrapping_add(i_immediate(word));
-                linked(word, target / 2 * 2, cpu)
-            }
-            _ => false,
-        },
         _ => false,
     }
 }
 
 /// Opcode OP-IMM.
 #[inline(always)]
-fn immediate(word: u32, cpu: &mut Cpu) -> bool
-    ensures ran { OnTrue result ((m : Memory) → executed (option_map Insn.Immediate (immediate_of (funct3 word) (funct7 word))) word (state cpu.old m)
-        ≡ after cpu.new m outcome.Next) }
+fn immediate(operation: Operation, word: u32, cpu: &mut Cpu) -> bool
+    ensures ran { OnTrue result ((m : Memory) → effect (Insn.Immediate operation) word (state cpu.old m) ≡ after cpu.new m outcome.Next) }
     ensures unchanged { OnFalse result (cpu.new ≡ cpu.old) }
 {
-    match immediate_value(word, cpu.register(rs1(word)), i_immediate(word)) {
-        Some(n) => {
-            cpu.compute(word, n);
-            true
-        }
-        None => false,
-    }
-}
-
-/// What an instruction of opcode OP-IMM computes.
-#[inline(always)]
-fn immediate_value(word: u32, a: u32, b: u32) -> Option<u32>
-    ensures { result ≡ option_map (λ operation. value_of operation a b) (immediate_of (funct3 word) (funct7 word)) }
-{
-    match funct3(word) {
-        0 => Some(value(Operation::Add, a, b)),
-        1 => match funct7(word) {
-            0x00 => Some(value(Operation::Sll, a, b)),
-            _ => None,
-        },
-        2 => Some(value(Operation::Slt, a, b)),
-        3 => Some(value(Operation::Sltu, a, b)),
-        4 => Some(value(Operation::Xor, a, b)),
-        5 => match funct7(word) {
-            0x00 => Some(value(Operation::Srl, a, b)),
-            0x20 => Some(value(Operation::Sra, a, b)),
-            _ => None,
-        },
-        6 => Some(value(Operation::Or, a, b)),
-        _ => Some(value(Operation::And, a, b)),
-    }
+    let n = value(operation, cpu.register(rs1(word)), i_immediate(word));
+    cpu.compute(word, n);
+    true
 }
 
 /// Opcode OP.
 #[inline(always)]
-fn register(word: u32, cpu: &mut Cpu) -> bool
-    ensures ran { OnTrue result ((m : Memory) → executed (option_map Insn.Register (register_of (funct3 word) (funct7 word))) word (state cpu.old m)
-        ≡ after cpu.new m outcome.Next) }
+fn register(operation: Operation, word: u32, cpu: &mut Cpu) -> bool
+    ensures ran { OnTrue result ((m : Memory) → effect (Insn.Register operation) word (state cpu.old m) ≡ after cpu.new m outcome.Next) }
     ensures unchanged { OnFalse result (cpu.new ≡ cpu.old) }
 {
-    match register_value(word, cpu.register(rs1(word)), cpu.register(rs2(word))) {
-        Some(n) => {
-            cpu.compute(word, n);
-            true
-        }
-        None => false,
-    }
-}
-
-/// What an instruction of opcode OP computes.
-#[inline(always)]
-fn register_value(word: u32, a: u32, b: u32) -> Option<u32>
-    ensures { result ≡ option_map (λ operation. value_of operation a b) (register_of (funct3 word) (funct7 word)) }
-{
-    match funct7(word) {
-        0x00 => match funct3(word) {
-            0 => Some(value(Operation::Add, a, b)),
-            1 => Some(value(Operation::Sll, a, b)),
-            2 => Some(value(Operation::Slt, a, b)),
-            3 => Some(value(Operation::Sltu, a, b)),
-            4 => Some(value(Operation::Xor, a, b)),
-            5 => Some(value(Operation::Srl, a, b)),
-            6 => Some(value(Operation::Or, a, b)),
-            _ => Some(value(Operation::And, a, b)),
-        },
-        0x01 => match funct3(word) {
-            0 => Some(value(Operation::Mul, a, b)),
-            1 => Some(value(Operation::Mulh, a, b)),
-            2 => Some(value(Operation::Mulhsu, a, b)),
-            3 => Some(value(Operation::Mulhu, a, b)),
-            4 => Some(value(Operation::Div, a, b)),
-            5 => Some(value(Operation::Divu, a, b)),
-            6 => Some(value(Operation::Rem, a, b)),
-            _ => Some(value(Operation::Remu, a, b)),
-        },
-        0x20 => match funct3(word) {
-            0 => Some(value(Operation::Sub, a, b)),
-            5 => Some(value(Operation::Sra, a, b)),
-            _ => None,
-        },
-        _ => None,
-    }
+    let n = value(operation, cpu.register(rs1(word)), cpu.register(rs2(word)));
+    cpu.compute(word, n);
+    true
 }
 
 /// Opcode BRANCH.
 #[inline(always)]
-fn branch(word: u32, cpu: &mut Cpu) -> bool
-    ensures ran { OnTrue result ((m : Memory) → executed (option_map Insn.Branch (branch_of (funct3 word))) word (state cpu.old m)
-        ≡ after cpu.new m outcome.Next) }
+fn branch(kind: Branch, word: u32, cpu: &mut Cpu) -> bool
+    ensures ran { OnTrue result ((m : Memory) → effect (Insn.Branch kind) word (state cpu.old m) ≡ after cpu.new m outcome.Next) }
     ensures unchanged { OnFalse result (cpu.new ≡ cpu.old) }
 {
-    let a = cpu.register(rs1(word));
-    let b = cpu.register(rs2(word));
-    match funct3(word) {
-        0 => branched(word, is_taken(Branch::Beq, a, b), cpu),
-        1 => branched(word, is_taken(Branch::Bne, a, b), cpu),
-        4 => branched(word, is_taken(Branch::Blt, a, b), cpu),
-        5 => branched(word, is_taken(Branch::Bge, a, b), cpu),
-        6 => branched(word, is_taken(Branch::Bltu, a, b), cpu),
-        7 => branched(word, is_taken(Branch::Bgeu, a, b), cpu),
-        _ => false,
-    }
+    let taken = is_taken(kind, cpu.register(rs1(word)), cpu.register(rs2(word)));
+    branched(word, taken, cpu)
 }
 
 #[inline(always)]
@@ -188,21 +202,6 @@ fn branched(word: u32, taken: bool, cpu: &mut Cpu) -> bool
 }
 
 /// Opcode LOAD.
-#[inline(always)]
-fn load_kind(word: u32, cpu: &mut Cpu, mem: &Mem) -> bool
-    ensures ran { OnTrue result (executed (option_map Insn.Load (load_of (funct3 word))) word (state cpu.old mem.now) ≡ after cpu.new mem.now outcome.Next) }
-    ensures unchanged { OnFalse result (cpu.new ≡ cpu.old) }
-{
-    match funct3(word) {
-        0 => loaded(Load::Lb, word, cpu, mem),
-        1 => loaded(Load::Lh, word, cpu, mem),
-        2 => loaded(Load::Lw, word, cpu, mem),
-        4 => loaded(Load::Lbu, word, cpu, mem),
-        5 => loaded(Load::Lhu, word, cpu, mem),
-        _ => false,
-    }
-}
-
 #[inline(always)]
 fn loaded(kind: Load, word: u32, cpu: &mut Cpu, mem: &Mem) -> bool
     ensures ran { OnTrue result (effect (Insn.Load kind) word (state cpu.old mem.now) ≡ after cpu.new mem.now outcome.Next) }
