@@ -8,4 +8,3 @@ pub mod Outbox
 pub mod Parcels
 pub mod Sending
 pub mod Wants
-pub mod inside

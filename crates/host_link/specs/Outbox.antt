@@ -1,11 +1,11 @@
 -- What firings hand out.
-use Rattle.std.specs.Prelude.{◌≡◌, ℕ, ◌==◌, List, ◌∷◌, ◌++◌, map, if◌then◌else◌}
+use Rattle.std.specs.Prelude.{◌≡◌, ℕ, ◌==◌, Bool, true, false, List, [], ◌∷◌, ◌++◌, map, if◌then◌else◌}
 use Rattle.sim_base.specs.declared.event.Event.{Event}
 use Rattle.sim_base.specs.declared.event.Parcel.{Parcel}
 use Rattle.sim_base.specs.declared.event.What.{What}
 use Rattle.sim_base.specs.declared.event.What.TheVariants as what
 use Rattle.sim_base.specs.declared.key.Key.{Key}
-use Rattle.host_link.specs.declared.outbox.Made.{Made}
+use Rattle.file_calls.specs.declared.task.Output.{Output}
 use Rattle.host_link.specs.declared.line.Line.{Line}
 use Rattle.host_link.specs.declared.line.Logged.{Logged}
 use Rattle.host_link.specs.Net.{Net}
@@ -32,14 +32,24 @@ abbrev pub logged : Key → Line → Logged
 logged key line = record { key = key; line = line }
 
 pub record IsEmpty (out : Outbox) : Type 0 where
-  pub own : out.own.items ≡ []
   pub parcels : out.parcels.items ≡ []
   pub lines : out.lines.items ≡ []
   pub outputs : out.outputs.items ≡ []
 
--- what the firing of an event made is added
-pub record Adds (net : Net) (host : ℕ) (key : Key) (made : Made) (old new : Outbox) : Type 0 where
-  pub own : new.own.items ≡ old.own.items ++ own_events net host made.events.items
-  pub parcels : new.parcels.items ≡ old.parcels.items ++ parcels_of net host made.events.items
-  pub lines : new.lines.items ≡ old.lines.items ++ map (logged key) made.lines.items
-  pub outputs : new.outputs.items ≡ old.outputs.items ++ made.outputs.items
+-- the packet of an event that fires at another host is added
+pub record Posts (to : ℕ) (e : Event) (old new : Outbox) : Type 0 where
+  pub parcels : new.parcels.items ≡ old.parcels.items ++ posted to e.key e.what []
+  pub lines : new.lines ≡ old.lines
+  pub outputs : new.outputs ≡ old.outputs
+
+-- lines are added
+pub record AddsLines (key : Key) (added : List Line) (old new : Outbox) : Type 0 where
+  pub parcels : new.parcels ≡ old.parcels
+  pub lines : new.lines.items ≡ old.lines.items ++ map (logged key) added
+  pub outputs : new.outputs ≡ old.outputs
+
+-- what processes wrote is added
+pub record AddsOutputs (added : List Output) (old new : Outbox) : Type 0 where
+  pub parcels : new.parcels ≡ old.parcels
+  pub lines : new.lines ≡ old.lines
+  pub outputs : new.outputs.items ≡ old.outputs.items ++ added

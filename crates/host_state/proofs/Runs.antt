@@ -21,11 +21,11 @@ use Rattle.host_state.specs.Fire.{fire, wrote}
 use Rattle.host_state.specs.Fits.{model, fires_before_stop, IsHostOf, IsEventOf}
 use Rattle.host_link.specs.Home.{home, home_of}
 use Rattle.host_state.specs.HostRecord.{HostRecord}
-use Rattle.host_state.specs.HostStands.{Stands, with_events}
+use Rattle.host_state.specs.HostStands.{Stands, Fires, with_events}
 use Rattle.host_link.specs.Link.{LinkState}
 use Rattle.host_link.specs.Outbox.{own_events, parcels_of, posted, logged}
 use Rattle.host_link.specs.Parcels.{parcel_event}
-use Rattle.host_state.specs.Running.{Owns, MayRun, FiresOn, RunsUntil, kept_line}
+use Rattle.host_state.specs.Running.{Owns, MayRun, RunsUntil, kept_line}
 use Rattle.host_state.specs.StandsFor.{BodyStands}
 use Rattle.host_state.proofs.Queues.{reversed, begun, first_taken, ordered_apart}
 use Rattle.host_state.proofs.Simulations.{fires_before_stop_is, firings_fit}
@@ -257,7 +257,6 @@ pub record SoFar (net : Net) (end : Time) (h0 : HostRecord) (queue0 : List Event
   pub number : host.link.number ≡ h0.link.number
   pub same : IsPermutation c.queue queue
   pub leads : (ran : Ran HostRecord Line) → RunsTo (model net) h0.link.number end.nanos host queue ran → RunsTo (model net) h0.link.number end.nanos h0 queue0 (behind packets lines fired ran)
-  pub own : after.own.items ≡ before.own.items
   pub parcels : after.parcels.items ≡ before.parcels.items ++ parcels_of net h0.link.number packets
   pub posts : map parcel_event (parcels_of net h0.link.number packets) ≡ packets
   pub logs : after.lines.items ≡ before.lines.items ++ map kept_line lines
@@ -276,7 +275,6 @@ so_far_start net end c out h stands = record {
   number = refl;
   same = IsPermutation-refl c.queue;
   leads = λ ran runs. runs;
-  own = refl;
   parcels = sym (append-nil out.parcels.items);
   posts = refl;
   logs = sym (append-nil out.lines.items);
@@ -287,7 +285,8 @@ so_far_start net end c out h stands = record {
 pub stands_same : (c d : Host) (h : HostRecord) → d.body ≡ c.body → Stands c h → Stands d h
 stands_same c d h is s = record { body = subst (λ (b : Body). BodyStands b h) (sym is) s.body; made = s.made; lines = s.lines; outputs = s.outputs }
 
-owns_same : (net : Net) (c : Host) (g h : HostRecord) (queue : List Event) → Stands c g → Stands c h → Owns net g.link queue → Owns net h.link queue
+-- a host that stands for two records has one link
+pub owns_same : (net : Net) (c : Host) (g h : HostRecord) (queue : List Event) → Stands c g → Stands c h → Owns net g.link queue → Owns net h.link queue
 owns_same net c g h queue s t owns = subst (λ (l : LinkState). Owns net l queue) (sym s.body.link ∙ t.body.link) owns
 
 map-append : {X Y : Type 0} (f : X → Y) (xs ys : List X) → map f (xs ++ ys) ≡ map f xs ++ map f ys
@@ -304,7 +303,7 @@ twice a b c d e first second = second ∙ ap (λ l. l ++ e) first ∙ append_ass
 
 module _ (net : Net) (early : net.stop.nanos ≤ latest_time) (end : Time) (until : end.nanos ≤ net.stop.nanos) (old taken new : Host) (e : Event) (before after : Outbox)
     (queue_is : old.queue ≡ e ∷ taken.queue) (ordered : IsOrdered old.queue) (body_is : taken.body ≡ old.body) (due : e.key.due.nanos < end.nanos)
-    (fired : (h : HostRecord) → Stands taken h → h.link.time.nanos ≤ e.key.due.nanos → FiresOn net e h taken new before after) where
+    (fired : (h : HostRecord) → Stands taken h → h.link.time.nanos ≤ e.key.due.nanos → Fires net e h taken new before after) where
   stop : e.key.due.nanos < net.stop.nanos
   stop = omega arith
 
@@ -318,7 +317,7 @@ module _ (net : Net) (early : net.stop.nanos ≤ latest_time) (end : Time) (unti
     there : Stands taken h
     there = stands_same old taken h body_is stands
 
-    turned : FiresOn net e h taken new before after
+    turned : Fires net e h taken new before after
     turned = fired h there (clock_is net early h e taken.queue stands.made stands.lines owned in_order stop)
 
     owns_new : Owns net (fire net h e).host.link new.queue
@@ -355,7 +354,7 @@ module _ (net : Net) (early : net.stop.nanos ≤ latest_time) (end : Time) (unti
     mine : Owns net h.link (e ∷ taken.queue)
     mine = owned h s.stands owns
 
-    t : FiresOn net e h taken new before after
+    t : Fires net e h taken new before after
     t = turned h s.stands owns
 
     abbrev gone : List Event
@@ -417,7 +416,6 @@ module _ (net : Net) (early : net.stop.nanos ≤ latest_time) (end : Time) (unti
       number = number_after net early h e taken.queue s.stands.made s.stands.lines mine in_order stop ∙ s.number;
       same = same_after;
       leads = leads_on;
-      own = t.own ∙ s.own;
       parcels = twice start.parcels.items before.parcels.items after.parcels.items (parcels_of net n s.packets) (parcels_of net n gone) s.parcels
           (t.parcels ∙ ap (λ (l : List Parcel). before.parcels.items ++ l) made_parcels)
           ∙ ap (λ (l : List Parcel). start.parcels.items ++ l) (sym (parcels_append net n s.packets gone));
@@ -459,7 +457,6 @@ has_run net end h0 start last new before after s over queue_is body_is =
       host = stands_same last new s.host body_is s.stands;
       queue = subst (λ (l : List Event). IsPermutation l s.queue) (sym queue_is) s.same;
       over = subst (All (λ (e : Event). end.nanos ≤ e.key.due.nanos)) (sym queue_is) over;
-      own = s.own;
       parcels = s.parcels;
       packets = s.posts;
       lines = s.logs;

@@ -1,10 +1,8 @@
 -- What a host of the code stands for, and what its calls leave.
-use Rattle.std.specs.Prelude.{◌≡◌, Bool, List, [], ◌∷◌, ◌++◌, map, if◌then◌else◌}
+use Rattle.std.specs.Prelude.{◌≡◌, ℕ, Bool, List, [], ◌∷◌, ◌++◌, map, if◌then◌else◌}
 use Rattle.event_order.specs.Events.{has_key, with_event}
 use Rattle.sim_base.specs.declared.event.Event.{Event}
-use Rattle.world_order.specs.Model.{Fired}
 use Rattle.host_state.specs.declared.host.Host.{Host}
-use Rattle.host_link.specs.declared.line.Line.{Line}
 use Rattle.host_link.specs.Net.{Net}
 use Rattle.host_link.specs.declared.outbox.Outbox.{Outbox}
 use Rattle.host_rows.specs.declared.row.Row.{Row}
@@ -25,19 +23,6 @@ pub record Stands (c : Host) (h : HostRecord) : Type 0 where
 abbrev pub IsSameBody : Host → Host → Type 0
 IsSameBody old new = (h : HostRecord) → Stands old h → Stands new h
 
--- what a firing leaves at the host, and what it adds to an outbox: the host's own events, packets for others, lines, and what
--- the host's processes wrote
-pub record Leaves (net : Net) (e : Event) (h : HostRecord) (f : Fired HostRecord Line) (new : Host) (before after : Outbox) : Type 0 where
-  pub host : Stands new f.host
-  pub own : after.own.items ≡ before.own.items ++ own_events net h.link.number f.made
-  pub parcels : after.parcels.items ≡ before.parcels.items ++ parcels_of net h.link.number f.made
-  pub lines : after.lines.items ≡ before.lines.items ++ map (logged e.key) f.lines
-  pub outputs : after.outputs.items ≡ before.outputs.items ++ wrote net h e
-
-pub record Fires (net : Net) (e : Event) (h : HostRecord) (old new : Host) (before after : Outbox) : Type 0 where
-  pub leaves : Leaves net e h (fire net h e) new before after
-  pub queue : new.queue ≡ old.queue
-
 -- events are held one after another, each key once
 abbrev pub held_once : Bool → Event → List Event → List Event
 held_once had e queue = if had then queue else with_event e queue
@@ -45,6 +30,22 @@ held_once had e queue = if had then queue else with_event e queue
 abbrev pub with_events : List Event → List Event → List Event
 with_events [] queue = queue
 with_events (e ∷ es) queue = with_events es (held_once (has_key e.key queue) e queue)
+
+-- of the events that a host made its own are held, and the packets of the others are added to an outbox
+pub record HandsOn (net : Net) (host : ℕ) (made held now : List Event) (before after : Outbox) : Type 0 where
+  pub queue : now ≡ with_events (own_events net host made) held
+  pub parcels : after.parcels.items ≡ before.parcels.items ++ parcels_of net host made
+  pub lines : after.lines ≡ before.lines
+  pub outputs : after.outputs ≡ before.outputs
+
+-- what a firing leaves at the host, which holds what it made for itself, and what it adds to an outbox: packets for others, lines, and what
+-- the host's processes wrote
+pub record Fires (net : Net) (e : Event) (h : HostRecord) (old new : Host) (before after : Outbox) : Type 0 where
+  pub host : Stands new (fire net h e).host
+  pub queue : new.queue ≡ with_events (own_events net h.link.number (fire net h e).made) old.queue
+  pub parcels : after.parcels.items ≡ before.parcels.items ++ parcels_of net h.link.number (fire net h e).made
+  pub lines : after.lines.items ≡ before.lines.items ++ map (logged e.key) (fire net h e).lines
+  pub outputs : after.outputs.items ≡ before.outputs.items ++ wrote net h e
 
 -- a host at the beginning, with its events
 pub record Begins (row : Row) (new : Host) : Type 0 where

@@ -10,13 +10,12 @@ use Rattle.host_link.specs.declared.line.Line.{Line}
 use Rattle.host_link.specs.declared.line.Logged.{Logged}
 use Rattle.host_link.specs.Net.{Net}
 use Rattle.host_link.specs.declared.outbox.Outbox.{Outbox}
-use Rattle.host_state.specs.Fire.{fire, wrote}
 use Rattle.host_state.specs.Fits.{model, IsEventOf}
 use Rattle.host_link.specs.Home.{home}
 use Rattle.host_state.specs.HostRecord.{HostRecord}
-use Rattle.host_state.specs.HostStands.{Stands, with_events}
+use Rattle.host_state.specs.HostStands.{Stands}
 use Rattle.host_link.specs.Link.{LinkState}
-use Rattle.host_link.specs.Outbox.{own_events, parcels_of, logged}
+use Rattle.host_link.specs.Outbox.{parcels_of, logged}
 use Rattle.host_link.specs.Parcels.{parcel_event}
 use Rattle.world_order.specs.WholeTurns.{Ran, RunsTo}
 use Rattle.world_order.specs.World as order
@@ -36,15 +35,6 @@ pub record Owns (net : Net) (link : LinkState) (queue : List Event) : Type 0 whe
 abbrev pub MayRun : Net → Host → Type 0
 MayRun net c = (h : HostRecord) × Stands c h × Owns net h.link c.queue
 
--- an event fires, and the host holds what it makes for itself
-pub record FiresOn (net : Net) (e : Event) (h : HostRecord) (old new : Host) (before after : Outbox) : Type 0 where
-  pub host : Stands new (fire net h e).host
-  pub queue : new.queue ≡ with_events (own_events net h.link.number (fire net h e).made) old.queue
-  pub own : after.own.items ≡ before.own.items
-  pub parcels : after.parcels.items ≡ before.parcels.items ++ parcels_of net h.link.number (fire net h e).made
-  pub lines : after.lines.items ≡ before.lines.items ++ map (logged e.key) (fire net h e).lines
-  pub outputs : after.outputs.items ≡ before.outputs.items ++ wrote net h e
-
 -- a line as the world's log has it
 abbrev pub kept_line : order.Logged Line → Logged
 kept_line l = logged l.key l.line
@@ -57,7 +47,6 @@ pub record RunsUntil (net : Net) (end : Time) (h : HostRecord) (old new : Host) 
   pub host : Stands new ran.host
   pub queue : IsPermutation new.queue ran.queue
   pub over : All (λ e. end.nanos ≤ e.key.due.nanos) new.queue
-  pub own : after.own.items ≡ before.own.items
   pub parcels : after.parcels.items ≡ before.parcels.items ++ parcels_of net h.link.number ran.packets
   pub packets : map parcel_event (parcels_of net h.link.number ran.packets) ≡ ran.packets
   pub lines : after.lines.items ≡ before.lines.items ++ map kept_line ran.lines

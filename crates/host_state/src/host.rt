@@ -8,10 +8,11 @@ ghost use Rattle.host_state.specs.HostRecord.{HostRecord, process_state};
 ghost use Rattle.host_state.specs.HostStands.{Stands, Fires, Begins, IsSameBody, with_events};
 ghost use Rattle.guest_process.specs.declared.process.Process.TheVariants as process;
 
+use crate::handing::{hand_all_on, hold_all};
 use event_order::{Queue, Refused};
 use guest_process::Process;
 use host_calls::Parts;
-use host_link::{Link, Net, Outbox};
+use host_link::{Link, Made, Net, Outbox};
 use host_rows::Row;
 use sim_base::{Draws, Event, NoMemory, State, Time};
 use std::alloc::Global;
@@ -50,20 +51,8 @@ fn queue_of(alloc: Global, events: Vec<Event>) -> Result<Queue, NoMemory>
     ensures { IfOk result (λ queue. queue ≡ with_events events.items []) }
 {
     let mut queue = Queue::new(alloc);
-    add_events(&mut queue, events)?;
+    hold_all(&mut queue, events)?;
     Ok(queue)
-}
-
-/// Adds events to a queue, each key once.
-pub(crate) fn add_events(queue: &mut Queue, events: Vec<Event>) -> Result<(), NoMemory>
-    ensures { OnOk result (queue.new ≡ with_events events.items queue.old) }
-{
-    for event in events {
-        if !queue.has_key(&event.key) {
-            queue.add(event)?;
-        }
-    }
-    Ok(())
 }
 
 impl Host {
@@ -92,7 +81,8 @@ impl Host {
         Ok(Host { body, queue })
     }
 
-    /// An event fires at the host. What it makes is added to `out`.
+    /// An event fires at the host, which then holds what it made for itself. Packets for other hosts,
+    /// lines of the log and what processes write are added to `out`.
     pub fn fire(&mut self, net: &Net, event: Event, out: &mut Outbox) -> Result<(), NoMemory>
         requires stop { net.now.stop.nanos ≤ latest_time }
         requires before { event.key.due.nanos < net.now.stop.nanos }
@@ -101,7 +91,14 @@ impl Host {
         let key = event.key;
         let number = self.body.link.number();
         let made = self.body.fire(net, event)?;
-        out.add(net, number, key, made)?;
+        let Made {
+            events,
+            lines,
+            outputs,
+        } = made;
+        hand_all_on(&mut self.queue, out, net, number, events)?;
+        out.add_lines(key, lines)?;
+        out.add_outputs(outputs)?;
         Ok(())
     }
 

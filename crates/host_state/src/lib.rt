@@ -3,6 +3,7 @@
 
 mod acting;
 mod firing;
+mod handing;
 mod host;
 pub mod laws;
 mod running;

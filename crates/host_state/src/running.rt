@@ -5,12 +5,11 @@ ghost use Rattle.sim_base.specs.Units.{latest_time};
 ghost use Rattle.event_order.specs.Events.{IsOrdered};
 ghost use Rattle.host_state.specs.HostRecord.{HostRecord};
 ghost use Rattle.host_state.specs.HostStands.{Stands};
-ghost use Rattle.host_state.specs.Running.{MayRun, FiresOn, RunsUntil};
+ghost use Rattle.host_state.specs.Running.{MayRun, RunsUntil};
 
-use crate::host::{Host, add_events};
+use crate::host::Host;
 use host_link::{Net, Outbox};
 use sim_base::{Event, NoMemory, Time};
-use std::mem;
 
 impl Host {
     /// Takes out the event of least key, if it is due before a time.
@@ -29,23 +28,9 @@ impl Host {
         self.queue.take_least()
     }
 
-    /// An event that was taken out fires, and the host holds what it makes for itself.
-    fn fire_on(&mut self, net: &Net, event: Event, out: &mut Outbox) -> Result<(), NoMemory>
-        requires stop { net.now.stop.nanos ≤ latest_time }
-        requires before { event.key.due.nanos < net.now.stop.nanos }
-        ensures { OnOk result ((h : HostRecord) → Stands self.old h → h.link.time.nanos ≤ event.key.due.nanos → FiresOn net.now event h self.old self.new out.old out.new) }
-    {
-        let alloc = *out.own.allocator();
-        let others = mem::replace(&mut out.own, Vec::new(alloc));
-        self.fire(net, event, out)?;
-        let own = mem::replace(&mut out.own, others);
-        add_events(&mut self.queue, own)?;
-        Ok(())
-    }
-
     /// Fires the events that the host holds and that are due before `end`, least key first, also
     /// those that it makes for itself on the way. Packets for other hosts, lines of the log and what
-    /// processes write are added to `out`; its own events it holds.
+    /// processes write are added to `out`.
     pub fn run_until(&mut self, net: &Net, end: Time, out: &mut Outbox) -> Result<(), NoMemory>
         requires stop { net.now.stop.nanos ≤ latest_time }
         requires until { end.nanos ≤ net.now.stop.nanos }
@@ -54,7 +39,7 @@ impl Host {
         ensures own { OnOk result (MayRun net.now self.new) }
     {
         'events: while let Some(event) = self.take_due(end) {
-            self.fire_on(net, event, out)?;
+            self.fire(net, event, out)?;
         }
         Ok(())
     }

@@ -11,6 +11,5 @@ pub mod Openings
 pub mod Delivering
 pub mod Closings
 pub mod Clearing
-pub mod Adding
 pub mod MemberTurns
 pub mod Ending

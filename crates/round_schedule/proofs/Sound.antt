@@ -1,5 +1,5 @@
 -- What holds in each state that a round reaches.
-use Rattle.std.proofs.Common.{◌≡◌, ℕ, ◌-◌, ◌^◌, ◌<◌, ◌≤◌, List, [], ◌∷◌, ◌++◌, All, length, map, flat_map, Some, slice_get, refl, sym, ap, subst, ◌∙◌, arith, IsPermutation}
+use Rattle.std.proofs.Common.{◌≡◌, ℕ, ◌-◌, ◌^◌, ◌<◌, ◌≤◌, List, [], ◌∷◌, ◌++◌, All, length, map, flat_map, Option, Some, slice_get, refl, sym, ap, subst, ◌∙◌, arith, IsPermutation}
 use Rattle.std.proofs.lemmas.List.Sorted.{All-permutation, IsPermutation-sym}
 use Rattle.sim_base.specs.declared.event.Event.{Event}
 use Rattle.host_state.specs.declared.host.Host.{Host}
@@ -9,6 +9,7 @@ use Rattle.host_state.specs.Fits.{model, IsEventOf, IsHostOf}
 use Rattle.host_link.specs.Home.{home}
 use Rattle.host_state.specs.HostRecord.{HostRecord}
 use Rattle.host_state.specs.HostStands.{Stands}
+use Rattle.host_state.specs.Running.{Owns}
 use Rattle.host_link.specs.Link.{LinkState}
 use Rattle.host_state.proofs.Simulations.{simulation, home_within}
 use Rattle.net_iface.specs.Lane.{AllFit}
@@ -16,7 +17,7 @@ use Rattle.world_order.specs.EventOrder.{AreApart}
 use Rattle.world_order.specs.Premises.{Simulation}
 use Rattle.world_order.specs.Round as order
 use Rattle.world_order.specs.Schedule.{after_all, fired_in, made_in}
-use Rattle.world_order.specs.Settled.{IsSettled}
+use Rattle.world_order.specs.Settled.{IsSettled, number_of}
 use Rattle.world_order.specs.World.{World}
 use Rattle.world_order.specs.declared.round_window.Window.{Window}
 use Rattle.world_order.specs.declared.step.Step.{Step}
@@ -120,6 +121,22 @@ pub record SoundHost (net : Net) (i : ℕ) (c : Host) : Type 0 where
   pub home : All (λ (e : Event). home net e ≡ i) c.queue
   pub good : (h : HostRecord) → Stands c h → IsHostOf net i h
   pub clock : (h : HostRecord) → Stands c h → All (λ (e : Event). h.link.time.nanos ≤ e.key.due.nanos) c.queue
+  pub below : (h : HostRecord) → Stands c h → All (λ (e : Event). e.key.source.index ≡ i → e.key.number < h.link.next) c.queue
+
+-- the events that it holds are its own
+pub sound_owns : (net : Net) (i : ℕ) (c : Host) → SoundHost net i c → (h : HostRecord) → Stands c h → Owns net h.link c.queue
+sound_owns net i c sound h s =
+    let good = sound.good h s in
+    record {
+      within = subst (λ (n : ℕ). n < length net.known.book) (sym good.number) good.within;
+      limited = good.limited;
+      up = good.up;
+      down = good.down;
+      events = sound.events;
+      home = subst (λ (n : ℕ). All (λ (e : Event). home net e ≡ n) c.queue) (sym good.number) sound.home;
+      clock = sound.clock h s;
+      below = subst (λ (n : ℕ). All (λ (e : Event). e.key.source.index ≡ n → e.key.number < h.link.next) c.queue) (sym good.number) (sound.below h s);
+    }
 
 module _ (net : Net) (window : Window) (w : World HostRecord Line) (r : Going) (sound : SoundRound net window w r) (i : ℕ) (x : order.Member HostRecord) (at : slice_get r.members i ≡ Some x) where
   abbrev queue_of : order.Member HostRecord → List Event
@@ -130,6 +147,12 @@ module _ (net : Net) (window : Window) (w : World HostRecord Line) (r : Going) (
 
   there : (e : Event) → IsIn e x.queue → IsIn e (order.events_of r)
   there e h = IsIn_left e (queues_of r) (order.packets_of r) (in_part queue_of r.members i x e at h)
+
+  -- an event that the host itself made has a number that it gave
+  numbered : (e : Event) → IsIn e (order.events_of r) → e.key.source.index ≡ i → e.key.number < x.host.link.next
+  numbered e h source =
+      subst (λ (o : Option HostRecord). e.key.number < number_of (model net) o)
+      (ap (slice_get (map (λ (y : order.Member HostRecord). y.host) r.members)) source ∙ host_at) (sound.sound.below e h)
 
   pub apart_here : AreApart x.queue
   apart_here =
@@ -151,4 +174,7 @@ module _ (net : Net) (window : Window) (w : World HostRecord Line) (r : Going) (
             (All_from_Each (λ (e : Event). h.link.time.nanos ≤ e.key.due.nanos) x.queue
             (λ e is. subst (λ (l : LinkState). l.time.nanos ≤ e.key.due.nanos) (link h s)
             (sound.sound.own_clock e x.host (there e is) (ap (slice_get (map (λ (y : order.Member HostRecord). y.host) r.members)) ((sound.good.members i x at).home e is) ∙ host_at))));
+        below = λ h s. All-permutation (λ (e : Event). e.key.source.index ≡ i → e.key.number < h.link.next) x.queue c.queue back
+            (All_from_Each (λ (e : Event). e.key.source.index ≡ i → e.key.number < h.link.next) x.queue
+            (λ e is source. subst (λ (l : LinkState). e.key.number < l.next) (link h s) (numbered e (there e is) source)));
       }

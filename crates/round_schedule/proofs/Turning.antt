@@ -15,24 +15,23 @@ use Rattle.host_state.specs.HostRecord.{HostRecord}
 use Rattle.host_state.specs.HostStands.{Stands}
 use Rattle.host_link.specs.Outbox.{own_events, parcels_of, logged}
 use Rattle.host_state.proofs.Simulations.{fires_before_stop_is, firings_fit}
-use Rattle.world_order.specs.EventOrder.{AreApart, take_least}
+use Rattle.world_order.specs.EventOrder.{take_least}
 use Rattle.world_order.specs.Model.{Fired}
 use Rattle.world_order.specs.Premises.{IsFit}
 use Rattle.world_order.specs.Round as order
 use Rattle.world_order.specs.Steps as steps
 use Rattle.world_order.specs.World as order_world
 use Rattle.world_order.specs.World.{World}
-use Rattle.world_order.proofs.Apart.{AreApart_permutation}
 use Rattle.world_order.proofs.Fires.{IsReady, ready_is}
 use Rattle.world_order.proofs.Firings.{numbered_source}
-use Rattle.world_order.proofs.Homes.{some_is, below_get, get_set_same}
+use Rattle.world_order.proofs.Homes.{some_is, below_get}
 use Rattle.world_order.proofs.Least.{take_least_there, take_least_IsPermutation}
 use Rattle.world_order.proofs.Members.{IsIn, Each, Each_from_All, All_from_Each, Each-append, IsIn_permutation, IsIn_filter_from}
 use Rattle.world_order.proofs.Orders.{take_least_permutation, window_upto}
 use Rattle.world_order.proofs.Parts.{same_order, from_then, from_map, from_given}
 use Rattle.round_schedule.specs.inside.Guards as guards
 use Rattle.round_schedule.specs.inside.Kinds.{fires}
-use Rattle.round_schedule.specs.Reaching.{State, Going, IsReached, May, Does}
+use Rattle.round_schedule.specs.Reaching.{State, Going, May, Does}
 use Rattle.round_schedule.specs.Standing.{EachStands, ParcelsStand, PlaceStands, MemberStands, WorkerStands, GoingStands, RoundStands, stage_of, lines_of, written_at}
 use Rattle.round_schedule.specs.inside.Turning.{MayTurn, TurnedBy, Turned, Turns}
 use Rattle.round_schedule.specs.declared.firing.HandedOut.{HandedOut}
@@ -43,7 +42,7 @@ use Rattle.round_schedule.proofs.Guarding.{held_same}
 use Rattle.round_schedule.proofs.Keeping.{IsSameRest, changed}
 use Rattle.round_schedule.proofs.Packets.{own_at, sent, parcels_sent, parcels_append, lines_more}
 use Rattle.round_schedule.proofs.Pairs.{pair_of, pair_set}
-use Rattle.round_schedule.proofs.Sound.{SoundRound, SoundHost, reached_sound, sound_host_is, apart_here}
+use Rattle.round_schedule.proofs.Sound.{SoundRound, SoundHost, reached_sound, sound_host_is, sound_owns, apart_here}
 
 abbrev Member' : Type 0
 Member' = order.Member HostRecord
@@ -144,24 +143,6 @@ module _ (net : Net) (worker : ℕ) (c : Round) (may : May net (fires net worker
   least = take_least_permutation finds.ready.member.queue finds.member.host.queue e finds.ready.rest finds.is.taken back
       (apart_here net c.window may.world may.round sound number finds.ready.member finds.is.member_at)
 
-  abbrev after : Going
-  after = steps.after_fire (model net) worker may.round finds.ready (fires_before_stop net h e)
-
-  sound_after : SoundRound net c.window may.world after
-  sound_after = reached_sound net c.window may.world after (subst (IsReached net c.window may.world) (sym led.2 ∙ ap order.Going (sym finds.u_is)) may.reaches)
-
-  abbrev later : Member'
-  later = record (finds.ready.member) { host = (fires_before_stop net h e).host; queue = finds.ready.rest ++ order.events_at (model net) number (fires_before_stop net h e).made }
-
-  apart_after : AreApart (finds.ready.rest ++ order.events_at (model net) number (fires_before_stop net h e).made)
-  apart_after = apart_here net c.window may.world after sound_after number later (get_set_same may.round.members number finds.ready.member later finds.is.member_at)
-
-  own_is : order.events_at (model net) number (fires_before_stop net h e).made ≡ own_events net h.link.number (fire net h e).made
-  own_is =
-      ap (λ (f : Firing). order.events_at (model net) number f.made) (fires_before_stop_is net h e stops)
-      ∙ sym (own_at net number (fire net h e).made)
-      ∙ ap (λ (i : ℕ). own_events net i (fire net h e).made) (sym (sound_host.good h finds.both.host).number)
-
   may_turn : MayTurn net finds.member
   may_turn = record {
     stop = sound.opened.window.stop;
@@ -169,12 +150,7 @@ module _ (net : Net) (worker : ℕ) (c : Round) (may : May net (fires net worker
     rest = least.0;
     taken = least.1;
     due = stops;
-    host = h;
-    stands = finds.both.host;
-    clock = λ g s. Each_from_All (λ (x : Event). g.link.time.nanos ≤ x.key.due.nanos) finds.member.host.queue (sound_host.clock g s) e (take_least_there finds.member.host.queue (e, least.0) least.1);
-    apart = AreApart_permutation (finds.ready.rest ++ order.events_at (model net) number (fires_before_stop net h e).made) (least.0 ++ own_events net h.link.number (fire net h e).made)
-        (IsPermutation-append finds.ready.rest least.0 (order.events_at (model net) number (fires_before_stop net h e).made) (own_events net h.link.number (fire net h e).made) least.2 (same_order _ _ own_is))
-        apart_after;
+    own = (h, finds.both.host, sound_owns net number finds.member.host sound_host h finds.both.host);
   }
 
   pub fire_may_turn : (n : ℕ) (m : Member) → guards.held worker c ≡ Some n → slice_get c.members.items n ≡ Some m → MayTurn net m

@@ -1,17 +1,15 @@
 //! The host in a worker's hand fires an event.
 
-ghost use Rattle.std.specs.Prelude.{◌≡◌, ◌++◌, OnOk, IfOk, IsPermutation};
+ghost use Rattle.std.specs.Prelude.{OnOk, IfOk};
 ghost use Rattle.host_link.specs.Net.{Net};
-ghost use Rattle.world_order.specs.EventOrder.{AreApart};
 ghost use Rattle.round_schedule.specs.Reaching.{May, Does};
 ghost use Rattle.round_schedule.specs.inside.Kinds.{fires};
-ghost use Rattle.round_schedule.specs.inside.Turning.{MayTurn, Turns, AddsAll};
+ghost use Rattle.round_schedule.specs.inside.Turning.{MayTurn, Turns};
 
 use crate::member::Member;
 use crate::round::Round;
 use host_link::{Logged, Net, Outbox};
-use host_state::Host;
-use sim_base::{Event, NoMemory, Parcel};
+use sim_base::{NoMemory, Parcel};
 
 /// What the firing of an event hands out: packets for other hosts, and lines of the log.
 #[derive(Drop)]
@@ -20,20 +18,8 @@ pub(crate) struct HandedOut {
     pub(crate) lines: Vec<Logged>,
 }
 
-/// The host holds more events.
-pub(crate) fn add_events(host: &mut Host, events: Vec<Event>) -> Result<(), NoMemory>
-    requires { AreApart (host.old.queue ++ events.items) }
-    ensures { OnOk result (AddsAll events.items host.old host.new) }
-{
-    for event in events {
-        host.add(event)?;
-    }
-    Ok(())
-}
-
 impl Member {
-    /// The least event of the host fires. What it makes for itself is held, and what its processes
-    /// write is kept.
+    /// The least event of the host fires, and what its processes write is kept.
     fn fire(&mut self, net: &Net) -> Result<HandedOut, NoMemory>
         requires { MayTurn net.now self.old }
         ensures { IfOk result (λ out. Turns net.now self.old self.new out) }
@@ -45,13 +31,11 @@ impl Member {
         };
         self.host.fire(net, event, &mut out)?;
         let Outbox {
-            own,
             parcels,
             lines,
             outputs,
         } = out;
         let mut outputs = outputs;
-        add_events(&mut self.host, own)?;
         self.outputs.append(&mut outputs)?;
         Ok(HandedOut { parcels, lines })
     }

@@ -94,7 +94,6 @@ pub(crate) fn run_task(
         parcels,
         lines,
         outputs,
-        ..
     } = task.run_here(alloc, net, end)?;
     let HostTask { id, host, .. } = task;
     let done = Done {

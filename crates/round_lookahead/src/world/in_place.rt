@@ -51,7 +51,6 @@ impl Alone {
             mut parcels,
             mut lines,
             outputs,
-            ..
         } = out;
         self.outputs.push(outputs)?;
         self.lines.append(&mut lines)?;

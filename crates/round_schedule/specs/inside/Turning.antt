@@ -1,34 +1,25 @@
 -- What the firing of an event does to a host of a round.
-use Rattle.std.specs.Prelude.{◌≡◌, ◌≤◌, ◌<◌, ℕ, List, ◌∷◌, ◌++◌, map, All, IsPermutation, Some}
+use Rattle.std.specs.Prelude.{◌≡◌, ◌≤◌, ◌<◌, List, ◌++◌, map, IsPermutation, Some}
 use Rattle.sim_base.specs.Units.{latest_time}
 use Rattle.sim_base.specs.declared.event.Event.{Event}
-use Rattle.host_state.specs.declared.host.Host.{Host}
 use Rattle.host_link.specs.Net.{Net}
 use Rattle.host_state.specs.Fire.{fire, wrote}
 use Rattle.host_state.specs.HostRecord.{HostRecord}
-use Rattle.host_state.specs.HostStands.{Stands, IsSameBody}
+use Rattle.host_state.specs.HostStands.{Stands}
+use Rattle.host_state.specs.Running.{MayRun}
 use Rattle.host_link.specs.Outbox.{own_events, parcels_of, logged}
-use Rattle.world_order.specs.EventOrder.{AreApart, take_least}
+use Rattle.world_order.specs.EventOrder.{take_least}
 use Rattle.round_schedule.specs.declared.firing.HandedOut.{HandedOut}
 use Rattle.round_schedule.specs.declared.member.Member.{Member}
 
--- the host holds more events, and is the same otherwise
-pub record AddsAll (events : List Event) (old new : Host) : Type 0 where
-  pub queue : IsPermutation new.queue (old.queue ++ events)
-  pub body : IsSameBody old new
-
--- the host's least event may fire: it is due before the stop, not before the last one that fired, and no event that is made for the host
--- itself has the key of one that it holds
+-- the host's least event may fire: it is due before the stop, and the events that the host holds are its own
 pub record MayTurn (net : Net) (c : Member) : Type 0 where
   pub stop : net.stop.nanos ≤ latest_time
   pub event : Event
   pub rest : List Event
   pub taken : take_least c.host.queue ≡ Some (event, rest)
   pub due : event.key.due.nanos < net.stop.nanos
-  pub host : HostRecord
-  pub stands : Stands c.host host
-  pub clock : (h : HostRecord) → Stands c.host h → h.link.time.nanos ≤ event.key.due.nanos
-  pub apart : AreApart (rest ++ own_events net host.link.number (fire net host event).made)
+  pub own : MayRun net c.host
 
 -- the event fired: its own events are held with the others, what was written is kept, and packets and lines are handed out
 pub record TurnedBy (net : Net) (h : HostRecord) (event : Event) (rest : List Event) (old new : Member) (out : HandedOut) : Type 0 where

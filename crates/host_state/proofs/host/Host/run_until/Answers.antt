@@ -10,16 +10,16 @@ events-init c = record {
 
 pub events-preserved : goal.events-preserved
 events-preserved c = record {
-  own = may_run_on c.args.net.now c.requires.stop c.args.end c.requires.until c.events.self c.take_due.new.self c.fire_on.new.self c.in-Some.event c.events.out c.fire_on.new.out
-      c.in-Some.ensures.taken c.in-Some.ensures.ordered c.take_due.ensures.body c.in-Some.ensures.due c.in_ok-fire_on.ensures c.events.invariant.own;
-  so_far = λ h s. so_far_on c.args.net.now c.requires.stop c.args.end c.requires.until c.events.self c.take_due.new.self c.fire_on.new.self c.in-Some.event c.events.out c.fire_on.new.out
-      c.in-Some.ensures.taken c.in-Some.ensures.ordered c.take_due.ensures.body c.in-Some.ensures.due c.in_ok-fire_on.ensures c.events.invariant.own h c.args.self.now.queue c.args.out.now (c.events.invariant.so_far h s);
+  own = may_run_on c.args.net.now c.requires.stop c.args.end c.requires.until c.events.self c.take_due.new.self c.fire.new.self c.in-Some.event c.events.out c.fire.new.out
+      c.in-Some.ensures.taken c.in-Some.ensures.ordered c.take_due.ensures.body c.in-Some.ensures.due c.in_ok-fire.ensures c.events.invariant.own;
+  so_far = λ h s. so_far_on c.args.net.now c.requires.stop c.args.end c.requires.until c.events.self c.take_due.new.self c.fire.new.self c.in-Some.event c.events.out c.fire.new.out
+      c.in-Some.ensures.taken c.in-Some.ensures.ordered c.take_due.ensures.body c.in-Some.ensures.due c.in_ok-fire.ensures c.events.invariant.own h c.args.self.now.queue c.args.out.now (c.events.invariant.so_far h s);
 }
 
 pub events-smaller : goal.events-smaller
 events-smaller c =
-    run_falls c.args.net.now c.requires.stop c.args.end c.requires.until c.events.self c.take_due.new.self c.fire_on.new.self c.in-Some.event c.events.out c.fire_on.new.out
-    c.in-Some.ensures.taken c.in-Some.ensures.ordered c.take_due.ensures.body c.in-Some.ensures.due c.in_ok-fire_on.ensures c.events.invariant.own
+    run_falls c.args.net.now c.requires.stop c.args.end c.requires.until c.events.self c.take_due.new.self c.fire.new.self c.in-Some.event c.events.out c.fire.new.out
+    c.in-Some.ensures.taken c.in-Some.ensures.ordered c.take_due.ensures.body c.in-Some.ensures.due c.in_ok-fire.ensures c.events.invariant.own
 
 pub returns-clause-ran : goal.returns-clause-ran
 returns-clause-ran c = λ h s.

@@ -1,2 +1,0 @@
--- what only contracts within the crate and proofs name
-pub mod Outbox
