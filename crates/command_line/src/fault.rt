@@ -7,7 +7,7 @@ use sim_base::NoMemory;
 use std::alloc::AllocError;
 
 /// The first fault of a command line.
-#[derive(Clone, Copy, PartialEq, Eq)]
+#[derive(Clone, Copy)]
 pub enum WordsFault {
     /// The words are not of the command's form, or ask for help or a version; or not exactly one of
     /// CONFIG, `--self-load` and `--read-capture` is given.
@@ -17,7 +17,7 @@ pub enum WordsFault {
 }
 
 /// Why a command line was not read.
-#[derive(Clone, Copy, PartialEq, Eq)]
+#[derive(Clone, Copy)]
 pub enum WordsError {
     Refused(WordsFault),
     NoMemory,

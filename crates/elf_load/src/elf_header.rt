@@ -11,7 +11,7 @@ use crate::fields::{half, word};
 use crate::program_header::ProgramHeader;
 
 /// The fields of the ELF header that a load looks at (System V gABI, "ELF Header").
-#[derive(Clone, Copy, PartialEq, Eq)]
+#[derive(Clone, Copy)]
 pub(crate) struct ElfHeader {
     /// `e_ident[EI_CLASS]`
     pub class: u8,

@@ -7,7 +7,7 @@ ghost use Rattle.elf_load.specs.declared.fault.LoadError.TheVariants.{Fault, NoM
 use std::alloc::{AllocError, AllocFailed};
 
 /// The fault of a file that is refused: the first in the order of the checks.
-#[derive(Clone, Copy, Debug, PartialEq, Eq)]
+#[derive(Clone, Copy, Debug)]
 pub enum ElfFault {
     /// The file ends before its ELF header, its program headers or a segment's bytes do.
     Truncated,
@@ -55,7 +55,7 @@ impl ElfFault {
 }
 
 /// Why a load gave no image.
-#[derive(Clone, Copy, Debug, PartialEq, Eq)]
+#[derive(Clone, Copy, Debug)]
 pub enum LoadError {
     /// The file has this fault.
     Fault(ElfFault),

@@ -9,7 +9,7 @@ use crate::fields::word;
 use crate::rights::Rights;
 
 /// A program header (System V gABI, "Program Header").
-#[derive(Clone, Copy, PartialEq, Eq)]
+#[derive(Clone, Copy)]
 pub struct ProgramHeader {
     /// `p_type`
     pub kind: u32,

@@ -4,7 +4,7 @@ ghost use Rattle.std.specs.Prelude.{◌≡◌};
 ghost use Rattle.elf_load.specs.Rights.{no_rights, union};
 
 /// The rights to load from, store to and execute a page.
-#[derive(Clone, Copy, PartialEq, Eq)]
+#[derive(Clone, Copy)]
 pub struct Rights {
     pub read: bool,
     pub write: bool,

@@ -1,3 +1,3 @@
 /// An address of the access isn't mapped with the right that it needs.
-#[derive(Clone, Copy, Debug, PartialEq, Eq)]
+#[derive(Clone, Copy, Debug)]
 pub struct Bad;

@@ -1,7 +1,7 @@
 //! The number of an open file.
 
 /// A host's own number of an open file, which a descriptor names.
-#[derive(Clone, Copy, PartialEq, Eq)]
+#[derive(Clone, Copy)]
 pub struct FileId {
     pub number: u64,
 }

@@ -13,7 +13,7 @@ pub struct Moment {
 }
 
 /// The clocks that a guest can read (`clock_gettime(2)`).
-#[derive(Clone, Copy, PartialEq, Eq)]
+#[derive(Clone, Copy)]
 pub struct Clock;
 
 const NANOS_IN_A_SECOND: u64 = 1_000_000_000;

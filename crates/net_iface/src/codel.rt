@@ -20,7 +20,7 @@ pub const INTERVAL: u64 = 100_000_000;
 pub const LARGEST: u64 = MAX_PACKET as u64;
 
 /// What CoDel keeps of a queue (RFC 8289, section 5.3).
-#[derive(Clone, Copy, PartialEq, Eq)]
+#[derive(Clone, Copy)]
 pub struct CodelState {
     /// From when on a packet that waits too long is ripe for a drop (`first_above_time`).
     pub above: Option<Time>,

@@ -17,7 +17,7 @@ use std::marker::Model;
 pub const WAITING: usize = 1000;
 
 /// The rule by which a lane treats the packets that it takes.
-#[derive(Clone, Copy, PartialEq, Eq)]
+#[derive(Clone, Copy)]
 pub enum QueueRule {
     /// Each packet leaves.
     Fifo,
@@ -26,7 +26,7 @@ pub enum QueueRule {
 }
 
 /// What became of a packet.
-#[derive(PartialEq, Eq, Drop)]
+#[derive(Drop)]
 pub enum Pushed {
     /// It leaves at once.
     Leaves(Packet),
@@ -38,7 +38,7 @@ pub enum Pushed {
 
 /// The packets that leave, those that the queue's rule dropped before, and when the next release is
 /// to be made, if any packet still waits.
-#[derive(PartialEq, Eq, Drop)]
+#[derive(Drop)]
 pub struct Released {
     pub packets: Vec<Packet>,
     pub dropped: Vec<Packet>,

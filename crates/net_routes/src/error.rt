@@ -7,7 +7,7 @@ use sim_base::NoMemory;
 use std::alloc::{AllocError, AllocFailed};
 
 /// Why there are no routes.
-#[derive(Clone, Copy, Debug, PartialEq, Eq)]
+#[derive(Clone, Copy, Debug)]
 pub enum RouteError {
     /// No walk leads from the one node to the other, by which a route that is needed could go.
     NoRoute { from: u32, to: u32 },

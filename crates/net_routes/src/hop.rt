@@ -9,7 +9,7 @@ use sim_base::NoMemory;
 use std::alloc::Global;
 
 /// A way along an edge, from one node to another.
-#[derive(Clone, Copy, PartialEq, Eq)]
+#[derive(Clone, Copy)]
 pub struct Hop {
     pub from: u32,
     pub to: u32,

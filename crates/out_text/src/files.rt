@@ -9,7 +9,7 @@ use std::alloc::Global;
 use std::fmt;
 
 /// What a process's file holds.
-#[derive(Clone, Copy, PartialEq, Eq)]
+#[derive(Clone, Copy)]
 pub enum FileKind {
     /// What it wrote to descriptor 1.
     Stdout,

@@ -12,7 +12,7 @@ use std::alloc::Global;
 use std::fmt;
 
 /// What happened to a packet, when and at which host. The log has one line for each.
-#[derive(Clone, PartialEq, Eq, Drop)]
+#[derive(Clone, Drop)]
 pub struct LogLine {
     pub time: Time,
     pub host: Name,

@@ -10,7 +10,7 @@ use std::alloc::Global;
 use std::fmt;
 
 /// What became of the bytes that one end of a connection wrote to the other.
-#[derive(Clone, Copy, PartialEq, Eq)]
+#[derive(Clone, Copy)]
 pub enum Fate {
     /// How many were written and how many were read, and whether the reader saw the end.
     Counted { written: u64, read: u64, end: bool },
@@ -21,7 +21,7 @@ pub enum Fate {
 }
 
 /// What a host wrote to a connection, by its own end and its peer's.
-#[derive(Clone, Copy, PartialEq, Eq)]
+#[derive(Clone, Copy)]
 pub struct Stream {
     pub host: HostId,
     pub own: Addr,

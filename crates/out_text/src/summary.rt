@@ -9,7 +9,7 @@ use std::alloc::Global;
 
 /// How many hosts a run had, and how many lines of its log tell `send`, `lost` and `recv`. A count
 /// stands still at 2^64 - 1.
-#[derive(Clone, Copy, PartialEq, Eq)]
+#[derive(Clone, Copy)]
 pub struct Summary {
     pub hosts: u32,
     pub sent: u64,

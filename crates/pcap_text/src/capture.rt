@@ -9,7 +9,7 @@ use std::alloc::Global;
 use std::marker::Model;
 
 /// A packet in a capture.
-#[derive(PartialEq, Eq, Drop)]
+#[derive(Drop)]
 pub struct Record {
     /// Since 2000-01-01 00:00:00 UTC.
     pub time: Time,

@@ -8,7 +8,7 @@ use sim_base::NoMemory;
 use std::alloc::{AllocError, AllocFailed};
 
 /// What is wrong with the bytes.
-#[derive(Clone, Copy, PartialEq, Eq)]
+#[derive(Clone, Copy)]
 pub enum PcapKind {
     /// The head, a record's head or a record's bytes pass the end.
     Truncated,
@@ -25,7 +25,7 @@ pub enum PcapKind {
 }
 
 /// The first fault of a capture, and the offset of the head or the record that has it.
-#[derive(Clone, Copy, PartialEq, Eq)]
+#[derive(Clone, Copy)]
 pub struct PcapFault {
     /// In bytes from the beginning of the file.
     pub at: u64,
@@ -33,7 +33,7 @@ pub struct PcapFault {
 }
 
 /// Why a capture wasn't read.
-#[derive(Clone, Copy, PartialEq, Eq)]
+#[derive(Clone, Copy)]
 pub enum PcapError {
     /// The bytes have this fault.
     Fault(PcapFault),

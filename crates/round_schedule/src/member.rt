@@ -5,7 +5,7 @@ use host_state::Host;
 use sim_base::Parcel;
 
 /// How far a host has come in a round.
-#[derive(Clone, Copy, PartialEq, Eq, Drop)]
+#[derive(Clone, Copy, Drop)]
 pub(crate) enum Stage {
     Waits,
     /// It is in the hand of the worker with this number.

@@ -6,7 +6,7 @@ ghost use Rattle.rv32_machine.specs.Table.{register_count};
 use crate::word::rd;
 
 /// The registers of a guest, and its reservation.
-#[derive(Clone, Copy, PartialEq, Eq)]
+#[derive(Clone, Copy)]
 pub struct Cpu {
     /// The address of the next instruction.
     pub pc: u32,

@@ -1,7 +1,7 @@
 //! The instructions by the manual's names. Their operands stay in the word.
 
 /// An instruction of RV32I, of the extensions M and A or of Zifencei, without its operands.
-#[derive(Clone, Copy, PartialEq, Eq)]
+#[derive(Clone, Copy)]
 pub enum Insn {
     Lui,
     Auipc,
@@ -24,7 +24,7 @@ pub enum Insn {
 }
 
 /// The conditional branches, opcode BRANCH.
-#[derive(Clone, Copy, PartialEq, Eq)]
+#[derive(Clone, Copy)]
 pub enum Branch {
     Beq,
     Bne,
@@ -35,7 +35,7 @@ pub enum Branch {
 }
 
 /// The loads, opcode LOAD.
-#[derive(Clone, Copy, PartialEq, Eq)]
+#[derive(Clone, Copy)]
 pub enum Load {
     Lb,
     Lh,
@@ -45,7 +45,7 @@ pub enum Load {
 }
 
 /// The stores, opcode STORE.
-#[derive(Clone, Copy, PartialEq, Eq)]
+#[derive(Clone, Copy)]
 pub enum Store {
     Sb,
     Sh,
@@ -53,7 +53,7 @@ pub enum Store {
 }
 
 /// The atomic memory operations, opcode AMO with the width of a word.
-#[derive(Clone, Copy, PartialEq, Eq)]
+#[derive(Clone, Copy)]
 pub enum Amo {
     AmoSwap,
     AmoAdd,
@@ -67,7 +67,7 @@ pub enum Amo {
 }
 
 /// What the opcodes OP-IMM and OP compute of two words.
-#[derive(Clone, Copy, PartialEq, Eq)]
+#[derive(Clone, Copy)]
 pub enum Operation {
     Add,
     Sub,

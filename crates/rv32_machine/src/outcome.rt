@@ -3,7 +3,7 @@
 use sim_base::Signal;
 
 /// How an instruction ends.
-#[derive(Clone, Copy, PartialEq, Eq)]
+#[derive(Clone, Copy)]
 pub enum Outcome {
     /// The next instruction follows.
     Next,
@@ -14,7 +14,7 @@ pub enum Outcome {
 }
 
 /// How a turn ends.
-#[derive(Clone, Copy, PartialEq, Eq)]
+#[derive(Clone, Copy)]
 pub enum TurnEnd {
     /// An instruction was `ECALL`. The program counter stands behind it.
     Call,

@@ -11,7 +11,7 @@ use sim_base::NoMemory;
 use std::alloc::{AllocError, Global};
 
 /// Whether a place of a command line stands in quotes.
-#[derive(Clone, Copy, PartialEq, Eq)]
+#[derive(Clone, Copy)]
 pub(crate) enum Quote {
     /// Neither in quotes nor behind a backslash.
     Outside,

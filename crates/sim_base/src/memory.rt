@@ -3,7 +3,7 @@
 use std::alloc::{AllocError, AllocFailed};
 
 /// A growth was refused: there was no memory for it.
-#[derive(Clone, Copy, Debug, PartialEq, Eq)]
+#[derive(Clone, Copy, Debug)]
 pub struct NoMemory;
 
 impl From<AllocError> for NoMemory {

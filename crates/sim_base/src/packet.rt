@@ -16,7 +16,7 @@ pub const RST: u8 = 4;
 pub const ACK: u8 = 16;
 
 /// What a packet carries.
-#[derive(Clone, PartialEq, Eq, Drop)]
+#[derive(Clone, Drop)]
 pub enum Load {
     /// A datagram (RFC 768).
     Udp(Bytes),
@@ -32,7 +32,7 @@ pub enum Load {
 }
 
 /// A packet on its way from one end to another.
-#[derive(Clone, PartialEq, Eq, Drop)]
+#[derive(Clone, Drop)]
 pub struct Packet {
     pub from: Addr,
     pub to: Addr,

@@ -3,14 +3,14 @@
 use sim_base::{Addr, Bytes};
 
 /// A datagram that waits, with its sender.
-#[derive(PartialEq, Eq, Drop)]
+#[derive(Drop)]
 pub struct Datagram {
     pub from: Addr,
     pub bytes: Bytes,
 }
 
 /// How many bytes of a datagram were received, and its sender.
-#[derive(Clone, Copy, PartialEq, Eq)]
+#[derive(Clone, Copy)]
 pub struct Received {
     pub bytes: usize,
     pub from: Addr,

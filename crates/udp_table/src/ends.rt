@@ -9,7 +9,7 @@ ghost use Rattle.udp_table.specs.inside.Indexing.{at_place};
 use sim_base::{Addr, Ip};
 
 /// What a UDP socket is bound to and connected to.
-#[derive(Clone, Copy, PartialEq, Eq)]
+#[derive(Clone, Copy)]
 pub struct UdpEnds {
     pub local: Option<Addr>,
     pub peer: Option<Addr>,

@@ -7,7 +7,7 @@ ghost use Rattle.world_order.specs.Window.{window_end};
 use sim_base::Time;
 
 /// The time from when on, and the time before which, the events of a round are due.
-#[derive(Clone, Copy, PartialEq, Eq, Drop)]
+#[derive(Clone, Copy, Drop)]
 pub struct Window {
     pub from: Time,
     pub end: Time,

@@ -3,7 +3,7 @@
 use sim_base::HostId;
 
 /// Where a packet that was made for another host is put.
-#[derive(Clone, Copy, PartialEq, Eq, Drop)]
+#[derive(Clone, Copy, Drop)]
 pub enum Spot {
     /// A place of the host that it goes to, from 0.
     Place(u32),
@@ -12,7 +12,7 @@ pub enum Spot {
 }
 
 /// A step of a round. Workers are numbered from 0.
-#[derive(Clone, Copy, PartialEq, Eq, Drop)]
+#[derive(Clone, Copy, Drop)]
 pub enum Step {
     /// The worker takes a host that waits.
     Take { worker: u32, host: HostId },
