@@ -163,7 +163,7 @@ fn sets(files: &mut Files, set: u64, first: u64, interval: u64) {
 }
 
 /// How many expiries a read takes of a timer.
-fn takes(files: &mut Files, place: usize, now: u64) -> Option<u64> {
+fn read_of(files: &mut Files, place: usize, now: u64) -> Option<u64> {
     (now <= 1 << 61).then(|| files.read_timer(place, at(now)))
 }
 
@@ -196,7 +196,7 @@ fn a_timer_tells_its_expiries(rt: HostRuntime) -> Result<(), Fail> {
             Some((*count, *count, *due)),
             "{set} {first} {interval} {now}"
         );
-        let reads = (takes(&mut files, 1, *now), takes(&mut files, 1, *now));
+        let reads = (read_of(&mut files, 1, *now), read_of(&mut files, 1, *now));
         assert_eq!(rt;
             reads,
             (Some(*count), Some(0)),
@@ -205,7 +205,7 @@ fn a_timer_tells_its_expiries(rt: HostRuntime) -> Result<(), Fail> {
     }
     sets(&mut files, 10, 20, 5);
     for (now, count) in &READS {
-        assert_eq!(rt; takes(&mut files, 1, *now), Some(*count), "{now}");
+        assert_eq!(rt; read_of(&mut files, 1, *now), Some(*count), "{now}");
     }
     Ok(())
 }
@@ -217,7 +217,10 @@ fn a_timer_goes_with_its_number(rt: HostRuntime) -> Result<(), Fail> {
     files.set_timer(2, at(10), at(20), at(5), 9);
     files.set_serial(0, 4);
     files.set_serial(2, 4);
-    let reads = [takes(&mut files, 0, 1 << 61), takes(&mut files, 2, 1 << 61)];
+    let reads = [
+        read_of(&mut files, 0, 1 << 61),
+        read_of(&mut files, 2, 1 << 61),
+    ];
     assert_eq!(rt; (timers, reads), ((0, 1), [Some(0); 2]));
     assert_eq!(rt; kept(&files, 0), Some((0, 4, 0)));
     files.end_timer(0);

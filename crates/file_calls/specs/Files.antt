@@ -15,7 +15,7 @@ use Rattle.host_fds.specs.Pipe.{PipeState, room}
 use Rattle.host_files.specs.declared.file.File.{File}
 use Rattle.host_files.specs.declared.file.Object.{Object}
 use Rattle.host_files.specs.declared.file.Object.TheVariants as kind
-use Rattle.host_files.specs.Files.{FilesState, next_pipe, with_pipe, pipe_at, pipe_gives, pipe_read, pipe_takes, pipe_written, timer_count, timer_read}
+use Rattle.host_files.specs.Files.{FilesState, next_pipe, with_pipe, pipe_at, pipe_gives, pipe_read, pipe_gets_in, pipe_written, timer_count, timer_read}
 use Rattle.host_wants.specs.declared.error.Refusal.{Refusal}
 use Rattle.host_wants.specs.declared.error.Refusal.TheVariants.{Errno, End}
 use Rattle.host_wants.specs.Refusals.{waits_if}
@@ -232,7 +232,7 @@ with_output process descriptor bytes shared =
 abbrev pub count_written : List ℕ → Object → FilesState → ℕ
 count_written bytes kind.Output files = length bytes
 count_written bytes kind.Errors files = length bytes
-count_written bytes (kind.WriteEnd k) files = pipe_takes bytes k files
+count_written bytes (kind.WriteEnd k) files = pipe_gets_in bytes k files
 count_written bytes (kind.Eventfd k) files = eventfd_size
 count_written bytes _ files = 0
 

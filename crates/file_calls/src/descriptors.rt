@@ -65,6 +65,6 @@ pub fn open(fd: u32, file: File, task: &mut Task, shared: &mut Shared) -> Result
     ensures { OnOk result (Is (spec.opens fd file (task.old, shared.old)) task.new shared.new) }
 {
     let id = shared.files.open(file)?;
-    task.table.place(fd, id);
+    task.table.install(fd, id);
     Ok(())
 }

@@ -1,4 +1,4 @@
--- what follows from a place in a text
+-- what follows from a byte of a text
 use Rattle.std.proofs.Common.{◌≡◌, ℕ, ◌+◌, ◌<◌, Bool, true, false, cond, not, List, [], ◌∷◌, ◌++◌, length, take, drop, get_or, refl, sym, ap, ◌∙◌, subst, arith, append_assoc, one-add, add-one, fold}
 use Rattle.std.specs.Prelude.{if◌then◌else◌, ◌==◌}
 use Rattle.std.specs.List.{position_or_len, before_first, after_first}
@@ -7,7 +7,7 @@ use Rattle.std.proofs.lemmas.Bool.Decides.{nat_tests}
 use Rattle.gml_graph.specs.declared.token.Token.TheVariants.{Text, Unclosed}
 use Rattle.gml_graph.specs.declared.token.Lexeme.{Lexeme}
 use Rattle.gml_graph.specs.Token.{word_token, quoted}
-use Rattle.gml_graph.specs.Tokens.{is_line_feed, is_blank, is_quote, ends_word, between, in_word, in_text, in_comment, lexeme, place_behind, next_line, brackets, tokens_from}
+use Rattle.gml_graph.specs.Tokens.{is_line_feed, is_blank, is_quote, ends_word, between, in_word, in_text, in_comment, lexeme, state_behind, next_line, brackets, tokens_from}
 use Rattle.gml_graph.specs.inside.Scanning.{word_len}
 use Rattle.gml_graph.specs.inside.Left.{begins_word}
 use Rattle.std.proofs.lemmas.Bool.{false≢true}
@@ -23,7 +23,7 @@ stays_on_line b bs line h = grind (arith, nat_tests)
 
 word_step : (b : ℕ) (bs : List ℕ) (line : ℕ) (before : List ℕ) (ends : Bool) → ends ≡ ends_word b bs
     → ((w : List ℕ) → tokens_from (in_word w) line bs ≡ lexeme line (word_token (w ++ take (word_len bs) bs)) ∷ tokens_from (between false) line (drop (word_len bs) bs))
-    → (if ends then lexeme line (word_token before) ∷ brackets line b else []) ++ tokens_from (if ends then place_behind false line b bs else in_word (before ++ b ∷ [])) (next_line line b) bs
+    → (if ends then lexeme line (word_token before) ∷ brackets line b else []) ++ tokens_from (if ends then state_behind false line b bs else in_word (before ++ b ∷ [])) (next_line line b) bs
     ≡ lexeme line (word_token (before ++ take (if ends then 0 else 1 + word_len bs) (b ∷ bs))) ∷ tokens_from (between false) line (drop (if ends then 0 else 1 + word_len bs) (b ∷ bs))
 word_step b bs line before true e rest = ap (λ w. lexeme line (word_token w) ∷ tokens_from (between false) line (b ∷ bs)) (sym (append-nil before))
 word_step b bs line before false e rest = rw (stays_on_line b bs line (sym e), one-add) (rest (before ++ b ∷ []) ∙ ap (λ w. lexeme line (word_token w) ∷ tokens_from (between false) line (drop (word_len bs) bs)) (append_assoc before (b ∷ []) (take (word_len bs) bs)))
@@ -90,12 +90,12 @@ split_front [] h = absurd (omega arith)
 split_front (b ∷ bs) h = refl
 
 pub tokens_step : (fresh : Bool) (line : ℕ) (bs : List ℕ) → 0 < length bs
-    → tokens_from (between fresh) line bs ≡ brackets line (get_or bs 0 0) ++ tokens_from (place_behind fresh line (get_or bs 0 0) (drop 1 bs)) (next_line line (get_or bs 0 0)) (drop 1 bs)
+    → tokens_from (between fresh) line bs ≡ brackets line (get_or bs 0 0) ++ tokens_from (state_behind fresh line (get_or bs 0 0) (drop 1 bs)) (next_line line (get_or bs 0 0)) (drop 1 bs)
 tokens_step fresh line [] h = absurd (omega arith)
 tokens_step fresh line (b ∷ bs) h = refl
 
 pub blank_at : (fresh : Bool) (line b : ℕ) (bs : List ℕ) → is_blank b bs ≡ true
-    → brackets line b ++ tokens_from (place_behind fresh line b bs) (next_line line b) bs ≡ tokens_from (between fresh) line bs
+    → brackets line b ++ tokens_from (state_behind fresh line b bs) (next_line line b) bs ≡ tokens_from (between fresh) line bs
 blank_at fresh line b bs h =
     let on : next_line line b ≡ line = grind (arith, nat_tests) in
     let none : brackets line b ≡ [] = grind (arith, nat_tests) in
@@ -115,8 +115,8 @@ text_begun fresh line (b ∷ bs) h e =
     let P : ℕ → Type 0 = λ c. tokens_from (between fresh) line (c ∷ bs) ≡ tokens_from (in_text line []) line bs in
     subst P (sym (byte_named b quotation_mark e)) refl
 
-word_place : (fresh : Bool) (line b : ℕ) (bs : List ℕ) → begins_word fresh (b ∷ bs) ≡ true → place_behind fresh line b bs ≡ in_word (b ∷ [])
-word_place fresh line b bs e = grind (arith, nat_tests)
+word_state : (fresh : Bool) (line b : ℕ) (bs : List ℕ) → begins_word fresh (b ∷ bs) ≡ true → state_behind fresh line b bs ≡ in_word (b ∷ [])
+word_state fresh line b bs e = grind (arith, nat_tests)
 
 word_begun : (fresh : Bool) (b : ℕ) (bs : List ℕ) → begins_word fresh (b ∷ bs) ≡ true → ends_word b bs ≡ false
 word_begun fresh b bs e = grind arith
@@ -129,4 +129,4 @@ pub word_taken : (fresh : Bool) (line : ℕ) (bs : List ℕ) → begins_word fre
 word_taken fresh line [] e = absurd (false≢true e)
 word_taken fresh line (b ∷ bs) e =
     let ends = word_begun fresh b bs e in
-    rw (no_bracket b line bs ends, word_place fresh line b bs e, stays_on_line b bs line ends, ends, one-add) (word_at (b ∷ []) bs line)
+    rw (no_bracket b line bs ends, word_state fresh line b bs e, stays_on_line b bs line ends, ends, one-add) (word_at (b ∷ []) bs line)

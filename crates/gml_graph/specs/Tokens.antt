@@ -32,18 +32,18 @@ ends_word b rest = is_blank b rest || (is_line_feed b || (is_open b || (is_close
 
 -- Where a byte stands: between tokens (and whether only spaces stand before it on its line), in a word behind these bytes,
 -- in a text that began at a line behind these bytes, or in a comment.
-pub data Place : Type 0 where
-  between : (fresh : Bool) → Place
-  in_word : (before : List ℕ) → Place
-  in_text : (line : ℕ) → (before : List ℕ) → Place
-  in_comment : Place
+pub data LexerState : Type 0 where
+  between : (fresh : Bool) → LexerState
+  in_word : (before : List ℕ) → LexerState
+  in_text : (line : ℕ) → (before : List ℕ) → LexerState
+  in_comment : LexerState
 
 abbrev pub lexeme : ℕ → Token → Lexeme
 lexeme line token = record { line = line; token = token }
 
--- the place behind a byte that stands in no word, text or comment: a comment begins its line
-abbrev pub place_behind : Bool → ℕ → ℕ → List ℕ → Place
-place_behind fresh line b rest =
+-- the state behind a byte that stands in no word, text or comment: a comment begins its line
+abbrev pub state_behind : Bool → ℕ → ℕ → List ℕ → LexerState
+state_behind fresh line b rest =
     if is_blank b rest then between fresh
     else (if is_line_feed b then between true
     else (if is_hash b && fresh then in_comment
@@ -51,12 +51,12 @@ place_behind fresh line b rest =
     else (if is_quote b then in_text line []
     else in_word (b ∷ [])))))
 
--- the place behind a byte
-abbrev pub next_place : Place → ℕ → ℕ → List ℕ → Place
-next_place (between fresh) line b rest = place_behind fresh line b rest
-next_place (in_word before) line b rest = if ends_word b rest then place_behind false line b rest else in_word (before ++ b ∷ [])
-next_place (in_text start before) line b rest = if is_quote b then between false else in_text start (before ++ b ∷ [])
-next_place in_comment line b rest = if is_line_feed b then between true else in_comment
+-- the state behind a byte
+abbrev pub next_state : LexerState → ℕ → ℕ → List ℕ → LexerState
+next_state (between fresh) line b rest = state_behind fresh line b rest
+next_state (in_word before) line b rest = if ends_word b rest then state_behind false line b rest else in_word (before ++ b ∷ [])
+next_state (in_text start before) line b rest = if is_quote b then between false else in_text start (before ++ b ∷ [])
+next_state in_comment line b rest = if is_line_feed b then between true else in_comment
 
 abbrev pub next_line : ℕ → ℕ → ℕ
 next_line line b = if is_line_feed b then line + 1 else line
@@ -65,23 +65,23 @@ abbrev pub brackets : ℕ → ℕ → List Lexeme
 brackets line b = if is_open b then lexeme line Open ∷ [] else (if is_close b then lexeme line Close ∷ [] else [])
 
 -- the tokens that end with a byte
-abbrev pub ended : Place → ℕ → ℕ → List ℕ → List Lexeme
+abbrev pub ended : LexerState → ℕ → ℕ → List ℕ → List Lexeme
 ended (between fresh) line b rest = brackets line b
 ended (in_word before) line b rest = if ends_word b rest then lexeme line (word_token before) ∷ brackets line b else []
 ended (in_text start before) line b rest = if is_quote b then lexeme start (Text (quoted before)) ∷ [] else []
 ended in_comment line b rest = []
 
 -- the token that the end of the text ends; a text without its second quote is no text
-abbrev pub ended_last : Place → ℕ → List Lexeme
+abbrev pub ended_last : LexerState → ℕ → List Lexeme
 ended_last (between fresh) line = []
 ended_last (in_word before) line = lexeme line (word_token before) ∷ []
 ended_last (in_text start before) line = lexeme start Unclosed ∷ []
 ended_last in_comment line = []
 
--- the tokens from a place on
-abbrev pub tokens_from : Place → ℕ → List ℕ → List Lexeme
-tokens_from place line [] = ended_last place line
-tokens_from place line (b ∷ rest) = ended place line b rest ++ tokens_from (next_place place line b rest) (next_line line b) rest
+-- the tokens from a state on
+abbrev pub tokens_from : LexerState → ℕ → List ℕ → List Lexeme
+tokens_from state line [] = ended_last state line
+tokens_from state line (b ∷ rest) = ended state line b rest ++ tokens_from (next_state state line b rest) (next_line line b) rest
 
 -- the tokens of a text
 abbrev pub tokens : List ℕ → List Lexeme

@@ -79,7 +79,7 @@ impl Table {
     }
 
     /// Gives a free number to an open file.
-    pub fn place(&mut self, fd: u32, file: FileId)
+    pub fn install(&mut self, fd: u32, file: FileId)
         requires in_range { fd < limit }
         requires is_free { map.get self.old fd ≡ None }
         ensures { self.new ≡ map.insert self.old fd file }

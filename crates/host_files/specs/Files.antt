@@ -71,12 +71,12 @@ abbrev pub pipe_read : ℕ → ℕ → FilesState → FilesState
 pipe_read count place s = pipe_acts (after_read count) place s
 
 -- how many of some bytes a write gets in
-abbrev pub takes : List ℕ → Option PipeState → ℕ
-takes bytes None = 0
-takes bytes (Some p) = count_taken p bytes
+abbrev pub gets_in : List ℕ → Option PipeState → ℕ
+gets_in bytes None = 0
+gets_in bytes (Some p) = count_taken p bytes
 
-abbrev pub pipe_takes : List ℕ → ℕ → FilesState → ℕ
-pipe_takes bytes place s = takes bytes (pipe_at place s)
+abbrev pub pipe_gets_in : List ℕ → ℕ → FilesState → ℕ
+pipe_gets_in bytes place s = gets_in bytes (pipe_at place s)
 
 abbrev pub after_write : List ℕ → PipeState → Option PipeState
 after_write bytes p = Some (pipe.written p bytes)

@@ -121,7 +121,7 @@ impl Files {
 
     /// Writes to a pipe the first of some bytes, as many as there is room for.
     pub fn write_pipe(&mut self, place: usize, bytes: &[u8]) -> usize
-        ensures count { result ≡ spec.pipe_takes bytes.now place self.old }
+        ensures count { result ≡ spec.pipe_gets_in bytes.now place self.old }
         ensures written { self.new ≡ spec.pipe_written bytes.now place self.old }
         ensures at_most { result ≤ length bytes.now }
     {
@@ -269,7 +269,7 @@ fn read_slot(slot: &mut Option<Pipe>, into: &mut [u8]) -> usize
 }
 
 fn write_slot(slot: &mut Option<Pipe>, bytes: &[u8]) -> usize
-    ensures count { result ≡ spec.takes bytes.now slot.old }
+    ensures count { result ≡ spec.gets_in bytes.now slot.old }
     ensures written { slot.new ≡ act.after (spec.after_write bytes.now) slot.old }
     ensures at_most { result ≤ length bytes.now }
 {

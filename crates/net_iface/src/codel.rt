@@ -68,7 +68,7 @@ impl CodelState {
 
     /// A packet is taken out of the queue: whether it is dropped. It waited since `since`, and so
     /// many bytes are left waiting behind it.
-    pub fn takes(&mut self, now: Time, since: Time, left: u64) -> bool
+    pub fn drops(&mut self, now: Time, since: Time, left: u64) -> bool
         requires { now.nanos ≤ latest_time }
         ensures { (result, self.new) ≡ taken now since left self.old }
     {

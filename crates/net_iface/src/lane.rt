@@ -165,7 +165,7 @@ impl Lane {
     {
         match self.rule {
             QueueRule::Fifo => false,
-            QueueRule::Codel => self.codel.takes(now, since, left),
+            QueueRule::Codel => self.codel.drops(now, since, left),
         }
     }
 

@@ -105,19 +105,19 @@ fn whole_square_roots(rt: HostRuntime) {
 }
 
 /// A packet of 1,500 bytes is taken behind a long queue, for which it waited so long.
-fn takes(codel: &mut CodelState, milli: u64, waited: u64) -> bool
+fn drops(codel: &mut CodelState, milli: u64, waited: u64) -> bool
     requires { milli * millisecond ≤ latest_time }
 {
     let since = milli.saturating_sub(waited) * 1_000_000;
-    codel.takes(at(milli * 1_000_000), at(since), 3000)
+    codel.drops(at(milli * 1_000_000), at(since), 3000)
 }
 
 /// Of a packet at 1,830 ms and of one at this time, below 4 s, which both waited long: whether each is dropped, and how
 /// many are then.
 fn again(codel: CodelState, milli: u64) -> (bool, bool, u64) {
     let mut codel = codel;
-    let first = takes(&mut codel, 1_830, 9);
-    let second = milli < 4_000 && takes(&mut codel, milli, 9);
+    let first = drops(&mut codel, 1_830, 9);
+    let second = milli < 4_000 && drops(&mut codel, milli, 9);
     (first, second, codel.count)
 }
 
@@ -125,14 +125,14 @@ fn again(codel: CodelState, milli: u64) -> (bool, bool, u64) {
 fn dropping_begins_again_where_it_ended(rt: HostRuntime) {
     let mut codel = CodelState::new();
     let taken = [
-        takes(&mut codel, 10, 9),
-        takes(&mut codel, 110, 9),
-        takes(&mut codel, 209, 9),
-        takes(&mut codel, 210, 9),
-        takes(&mut codel, 281, 9),
+        drops(&mut codel, 10, 9),
+        drops(&mut codel, 110, 9),
+        drops(&mut codel, 209, 9),
+        drops(&mut codel, 210, 9),
+        drops(&mut codel, 281, 9),
     ];
     assert_eq!(rt; (taken, codel.count), ([false, true, false, true, true], 3));
-    let ended = (takes(&mut codel, 282, 4), codel.dropping);
+    let ended = (drops(&mut codel, 282, 4), codel.dropping);
     assert_eq!(rt; ended, (false, false));
     assert_eq!(rt; again(codel, 1_938), (false, true, 2));
     assert_eq!(rt; again(codel, 1_939), (false, true, 1));

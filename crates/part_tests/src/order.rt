@@ -35,7 +35,7 @@ fn adds(queue: &mut Queue, event: Event) -> bool {
 }
 
 /// The number of the event that comes first, which is taken.
-fn takes(queue: &mut Queue) -> Option<u64> {
+fn least_of(queue: &mut Queue) -> Option<u64> {
     queue.take_least().map(|event| event.key.number)
 }
 
@@ -50,7 +50,7 @@ fn the_least_key_comes_first(rt: HostRuntime) {
     }
     assert!(rt; queue.len() == 5 && queue.least_due() == Some(nanos(1)));
     for number in [8, 9, 7, 1, 0] {
-        assert_eq!(rt; takes(&mut queue), Some(number));
+        assert_eq!(rt; least_of(&mut queue), Some(number));
     }
     assert!(rt; queue.is_empty() && queue.least_due() == None);
 }

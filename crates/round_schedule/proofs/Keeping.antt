@@ -22,7 +22,7 @@ use Rattle.world_order.proofs.Homes.{some_is, below_get}
 use Rattle.world_order.proofs.Members.{IsIn, Each, Each_from_All, All_from_Each}
 use Rattle.world_order.proofs.Parts.{from_then, from_map, from_given}
 use Rattle.round_schedule.specs.inside.Guards as guards
-use Rattle.round_schedule.specs.inside.Kinds.{takes, gives, puts}
+use Rattle.round_schedule.specs.inside.Kinds.{takes_host, gives, puts}
 use Rattle.round_schedule.specs.inside.Putting.{Spills, HasPlaced}
 use Rattle.round_schedule.specs.Reaching.{State, Going, May, Does}
 use Rattle.round_schedule.specs.Standing.{EachStands, ParcelsStand, PlaceStands, MemberStands, WorkerStands, GoingStands, RoundStands, stage_of, lines_of, written_at}
@@ -74,7 +74,7 @@ module _ (net : Net) (w : World HostRecord Line) (c d : Round) (r : Going) (stan
 -- ---- Take
 
 module _ (net : Net) (worker host : ℕ) (c : Round) where
-  pub take_below : May net (takes worker host) c → host < length c.members.items
+  pub take_below : May net (takes_host worker host) c → host < length c.members.items
   take_below may =
       let a = from_map (steps.take_host worker host may.round) order.Going may.next may.leads in
       let b = from_then (slice_get may.round.workers worker) _ a.0 a.1 in
@@ -85,7 +85,7 @@ module _ (net : Net) (worker host : ℕ) (c : Round) where
 
   pub taken : (d : Round) (m : Member) → IsSameRest c d → slice_get c.members.items host ≡ Some m
       → d.members.items ≡ slice_set c.members.items host (record m { stage = stage.InHand worker }) → d.workers.items ≡ c.workers.items → d.lines.items ≡ c.lines.items
-      → Does net (takes worker host) c d
+      → Does net (takes_host worker host) c d
   taken d m same at members_is workers_is lines_is = record {
     window = same.window;
     stands = λ w r t stands is.

@@ -11,7 +11,7 @@ use Rattle.gml_graph.specs.declared.number.Decimal.{Decimal}
 use Rattle.gml_graph.specs.declared.token.Token.TheVariants.{Number}
 use Rattle.gml_graph.specs.Number as number
 use Rattle.gml_graph.specs.Token.{is_key, word_token}
-use Rattle.gml_graph.specs.Tokens.{ends_word, between, in_word, lexeme, next_line, brackets, place_behind, tokens_from}
+use Rattle.gml_graph.specs.Tokens.{ends_word, between, in_word, lexeme, next_line, brackets, state_behind, tokens_from}
 
 -- a number that isn't below 0, without a point
 abbrev pub whole : ℕ → Decimal
@@ -109,7 +109,7 @@ inside before (c ∷ cs) rest line h =
 
 begun : (c line : ℕ) (rest : List ℕ) → is_ascii_digit c ≡ true → tokens_from (between false) line (c ∷ rest) ≡ tokens_from (in_word (c ∷ [])) line rest
 begun c line rest h =
-    let place : place_behind false line c rest ≡ in_word (c ∷ []) = grind (arith, nat_tests) in
+    let place : state_behind false line c rest ≡ in_word (c ∷ []) = grind (arith, nat_tests) in
     let none : brackets line c ≡ [] = grind (arith, nat_tests) in
     rw (none, place, digit_line c line h) refl
 

@@ -7,8 +7,8 @@ use Rattle.world_order.specs.Steps.{take_host, fire_host, put_packet, give_back,
 use Rattle.world_order.specs.declared.step.Spot.{Spot}
 use Rattle.round_schedule.specs.Reaching.{Going, State}
 
-abbrev pub takes : ℕ → ℕ → Going → Option State
-takes worker host r = goes (take_host worker host r)
+abbrev pub takes_host : ℕ → ℕ → Going → Option State
+takes_host worker host r = goes (take_host worker host r)
 
 abbrev pub fires : Net → ℕ → Going → Option State
 fires net worker r = goes (fire_host (model net) worker r)

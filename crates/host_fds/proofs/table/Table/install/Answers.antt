@@ -1,6 +1,6 @@
 use Rattle.std.proofs.Common.{◌<◌, length, arith}
 use Rattle.host_fds.proofs.Slots.{placed}
-use Rattle.host_fds.proofs.table.Table.place.Goals as goal
+use Rattle.host_fds.proofs.table.Table.install.Goals as goal
 
 pub returns : goal.returns
 returns c =
