@@ -2,7 +2,7 @@
 
 ghost use Rattle.std.specs.Prelude.{◌≡◌, ◌<◌, ◌≤◌, length, IfOk};
 
-use run_outside::{Place, Sink, Tally, WriteError};
+use run_outside::{Sink, SinkTarget, Tally, WriteError};
 use std::alloc::Global;
 use std::fs;
 use std::fs::{Files, OpenOptions};
@@ -105,15 +105,15 @@ impl<'a, R: Files + AllocGlobal, O: Write, E: Write> DiskSink<'a, R, O, E> {
         self.kept[place].file.write(piece)
     }
 
-    fn put_some(&mut self, place: &Place, piece: &[u8]) -> io::Result<usize>
+    fn put_some(&mut self, target: &SinkTarget, piece: &[u8]) -> io::Result<usize>
         ensures fits { IfOk result (λ n. n ≤ length piece.now) }
         ensures some { IfOk result (λ n. 0 < length piece.now → 0 < n) }
         ensures tally { self.new.tally ≡ self.old.tally }
     {
-        let taken = match place {
-            Place::Out => self.out.write(piece)?,
-            Place::Err => self.err.write(piece)?,
-            Place::File(name) => self.put_file(name.as_str(), piece)?,
+        let taken = match target {
+            SinkTarget::Out => self.out.write(piece)?,
+            SinkTarget::Err => self.err.write(piece)?,
+            SinkTarget::File(name) => self.put_file(name.as_str(), piece)?,
         };
         if taken == 0 && !piece.is_empty() {
             return Err(io::Error::from(ErrorKind::WriteZero));
@@ -143,12 +143,12 @@ impl<'a, R: Files + AllocGlobal, O: Write, E: Write> DiskSink<'a, R, O, E> {
     }
 
     /// Puts the front of a piece, before the call is counted.
-    fn put_front(&mut self, place: &Place, piece: &[u8]) -> Result<usize, WriteError>
+    fn put_front(&mut self, target: &SinkTarget, piece: &[u8]) -> Result<usize, WriteError>
         ensures fits { IfOk result (λ n. n ≤ length piece.now) }
         ensures some { IfOk result (λ n. 0 < length piece.now → 0 < n) }
         ensures tally { self.new.tally ≡ self.old.tally }
     {
-        match self.put_some(place, piece) {
+        match self.put_some(target, piece) {
             Ok(taken) => Ok(taken),
             Err(error) => Err(write_error(&error)),
         }
@@ -168,8 +168,8 @@ impl<'a, R: Files + AllocGlobal, O: Write, E: Write> Sink for DiskSink<'a, R, O,
         answer
     }
 
-    fn put(&mut self, place: &Place, piece: &[u8]) -> Result<usize, WriteError> {
-        let answer = self.put_front(place, piece);
+    fn put(&mut self, target: &SinkTarget, piece: &[u8]) -> Result<usize, WriteError> {
+        let answer = self.put_front(target, piece);
         self.tally.count(&answer);
         answer
     }

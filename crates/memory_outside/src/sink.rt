@@ -9,7 +9,7 @@ ghost use Rattle.run_outside.specs.Tally.{no_calls_yet};
 
 use crate::calls::Calls;
 use base_texts::Name;
-use run_outside::{Place, Sink, Tally, WriteError};
+use run_outside::{Sink, SinkTarget, Tally, WriteError};
 use sim_base::NoMemory;
 use std::alloc::Global;
 use std::collections::{BTreeMap, BTreeSet};
@@ -131,10 +131,10 @@ impl MemSink {
     }
 
     /// Adds the front of a piece, before the call is counted.
-    fn add_front(&mut self, place: &Place, piece: &[u8]) -> Result<usize, WriteError>
+    fn add_front(&mut self, target: &SinkTarget, piece: &[u8]) -> Result<usize, WriteError>
         ensures fits { IfOk result (λ n. n ≤ length piece.now) }
         ensures some { IfOk result (λ n. 0 < length piece.now → 0 < n) }
-        ensures added { IfOk result (λ n. sink_content self.new ≡ add place.now (take n piece.now) (sink_content self.old)) }
+        ensures added { IfOk result (λ n. sink_content self.new ≡ add target.now (take n piece.now) (sink_content self.old)) }
         ensures err { OnErr result (sink_content self.new ≡ sink_content self.old) }
         ensures tally { sink_tally self.new ≡ sink_tally self.old }
     {
@@ -143,10 +143,10 @@ impl MemSink {
         }
         let taken = piece.len().min(self.most.max(1));
         let (front, _) = piece.split_at(taken);
-        match place {
-            Place::Out => self.out.extend_from_slice(front)?,
-            Place::Err => self.err.extend_from_slice(front)?,
-            Place::File(name) => add_to_file(self.alloc, &mut self.files, name, front)?,
+        match target {
+            SinkTarget::Out => self.out.extend_from_slice(front)?,
+            SinkTarget::Err => self.err.extend_from_slice(front)?,
+            SinkTarget::File(name) => add_to_file(self.alloc, &mut self.files, name, front)?,
         }
         Ok(taken)
     }
@@ -187,8 +187,8 @@ impl Sink for MemSink {
         answer
     }
 
-    fn put(&mut self, place: &Place, piece: &[u8]) -> Result<usize, WriteError> {
-        let answer = self.add_front(place, piece);
+    fn put(&mut self, target: &SinkTarget, piece: &[u8]) -> Result<usize, WriteError> {
+        let answer = self.add_front(target, piece);
         self.tally.count(&answer);
         answer
     }

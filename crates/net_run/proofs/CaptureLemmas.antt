@@ -7,8 +7,8 @@ use Rattle.std.proofs.lemmas.Grind.{flat_map-append}
 use Rattle.std.proofs.lemmas.List.Elements.{filter-append}
 use Rattle.std.proofs.lemmas.Slice.Eq.{bytes_eq-Decides}
 use Rattle.sim_base.specs.declared.address.Ip.{Ip}
-use Rattle.run_outside.specs.declared.sink.Place.{Place}
-use Rattle.run_outside.specs.declared.sink.Place.TheVariants as place
+use Rattle.run_outside.specs.declared.sink.SinkTarget.{SinkTarget}
+use Rattle.run_outside.specs.declared.sink.SinkTarget.TheVariants as target
 use Rattle.out_text.specs.Files.{capture_name}
 use Rattle.pcap_text.specs.Writing.{head}
 use Rattle.run_files.specs.Captured.{capture_files, files_by, host_captures, captured_by, captured_from, no_head}
@@ -18,8 +18,8 @@ use Rattle.run_files.specs.Listed.{HostNames, by_host}
 use Rattle.run_files.specs.declared.capture.Captured.{Captured}
 use Rattle.host_link.specs.declared.line.Line.{Line}
 use Rattle.net_run.specs.Heads.{heads_by, all_heads}
-use Rattle.net_run.specs.Places.{is_place, is_touched}
-use Rattle.net_run.proofs.FileLemmas.{place_of_file, same_place}
+use Rattle.net_run.specs.Targets.{is_target, is_touched}
+use Rattle.net_run.proofs.FileLemmas.{target_of_file, same_target}
 use Rattle.net_run.proofs.GrowthLemmas.{more_bytes}
 use Rattle.net_run.proofs.HostLemmas.{AreOwn}
 use Rattle.net_run.proofs.NameLemmas.{same_capture}
@@ -28,24 +28,24 @@ use Rattle.net_run.proofs.SplitLemmas.{touched_append, Splits, splits_append}
 -- ---- one host
 
 -- a capture of a host
-pub record IsCapture (host : List ℕ) (at : Place) : Type 0 where
+pub record IsCapture (host : List ℕ) (at : SinkTarget) : Type 0 where
   pub loopback : Bool
-  pub is : at ≡ place.File (capture_name host loopback)
+  pub is : at ≡ target.File (capture_name host loopback)
 
-module _ (at : Place) (host : List ℕ) where
+module _ (at : SinkTarget) (host : List ℕ) where
   abbrev at_capture : Bool → Bool
-  at_capture loopback = is_place (place.File (capture_name host loopback)) at
+  at_capture loopback = is_target (target.File (capture_name host loopback)) at
 
   touched_files : (x y : List ℕ) → is_touched at (capture_files host x y) ≡ true → IsCapture host at
   touched_files x y e = go (at_capture false) (at_capture true) refl refl e where
     go : (i j : Bool) → at_capture false ≡ i → at_capture true ≡ j → (i || (j || false)) ≡ true → IsCapture host at
-    go true j a b t = record { loopback = false; is = place_of_file (capture_name host false) at a }
-    go false true a b t = record { loopback = true; is = place_of_file (capture_name host true) at b }
+    go true j a b t = record { loopback = false; is = target_of_file (capture_name host false) at a }
+    go false true a b t = record { loopback = true; is = target_of_file (capture_name host true) at b }
     go false false a b t = absurd (cc)
 
   not_both_is : at_capture false ≡ true → at_capture true ≡ true → ⊥
   not_both_is i j =
-      let name : capture_name host false ≡ capture_name host true = same_place _ _ at (place_of_file _ at i) (place_of_file _ at j) in
+      let name : capture_name host false ≡ capture_name host true = same_target _ _ at (target_of_file _ at i) (target_of_file _ at j) in
       let same : false ≡ true = (same_capture host host false true name).1 in
       cc
 
@@ -64,7 +64,7 @@ module _ (at : Place) (host : List ℕ) where
 records_append : (size : ℕ) (p : Line → Bool) (xs ys : List Line) → records_of size (filter p (xs ++ ys)) ≡ records_of size (filter p xs) ++ records_of size (filter p ys)
 records_append size p xs ys = ap (flat_map (line_record size)) (filter-append p xs ys) ∙ flat_map-append (line_record size) (filter p xs) (filter p ys)
 
-more_by : (at : Place) (host : List ℕ) (front : ℕ → List ℕ) (number : ℕ) (own : Ip) (xs ys : List Line) (o : Option ℕ)
+more_by : (at : SinkTarget) (host : List ℕ) (front : ℕ → List ℕ) (number : ℕ) (own : Ip) (xs ys : List Line) (o : Option ℕ)
     → Splits at (files_by front host (captured_by number own xs o) o) (files_by no_head host (captured_by number own ys o) o) (files_by front host (captured_by number own (xs ++ ys) o) o)
 more_by at host front number own xs ys None = record { bytes = refl; first = λ e. e; second = refl }
 more_by at host front number own xs ys (Some size) =
@@ -88,7 +88,7 @@ more_by at host front number own xs ys (Some size) =
 abbrev pub captures_from : (ℕ → List ℕ) → ℕ → List HostNames → List Line → List Put
 captures_from front number hosts lines = by_host (host_captures front) hosts (captured_from number hosts lines)
 
-module _ (at : Place) (front : ℕ → List ℕ) where
+module _ (at : SinkTarget) (front : ℕ → List ℕ) where
   -- what is touched is a capture of some host
   pub some_capture : (number : ℕ) (hosts : List HostNames) (lines : List Line) → is_touched at (captures_from front number hosts lines) ≡ true → (name : List ℕ) × IsCapture name at
   some_capture number [] lines e = absurd (cc)
@@ -114,7 +114,7 @@ module _ (at : Place) (front : ℕ → List ℕ) where
             → (is_touched at (captures_from front (number + 1) hosts lines) ≡ true → ⊥) → ⊥
         go true b here later t behind =
             let other = touched_by at host.name front (captured_by number host.address lines host.capture) host.capture here in
-            let same : name ≡ host.name = (same_capture name host.name capture.loopback other.loopback (same_place _ _ at capture.is other.is)).0 in
+            let same : name ≡ host.name = (same_capture name host.name capture.loopback other.loopback (same_target _ _ at capture.is other.is)).0 in
             let is : bytes_eq name host.name ≡ true = (bytes_eq-Decides name host.name).1 same in
             let not : bytes_eq name host.name ≡ false = apart.0 in
             let e2 : true ≡ false = sym is ∙ not in cc
@@ -145,8 +145,8 @@ heads_are number (host ∷ hosts) =
     ap (λ (l : List Put). l ++ all_heads hosts) (heads_of host.name number host.address host.capture)
     ∙ ap (λ (l : List Put). files_by head host.name (captured_by number host.address [] host.capture) host.capture ++ l) (heads_are (number + 1) hosts)
 
--- the captures are at the same places, whatever stands there
-pub same_captures : (at : Place) (f g : ℕ → List ℕ) (number other : ℕ) (hosts : List HostNames) (xs ys : List Line) → is_touched at (captures_from f number hosts xs) ≡ is_touched at (captures_from g other hosts ys)
+-- the captures are at the same targets, whatever stands there
+pub same_captures : (at : SinkTarget) (f g : ℕ → List ℕ) (number other : ℕ) (hosts : List HostNames) (xs ys : List Line) → is_touched at (captures_from f number hosts xs) ≡ is_touched at (captures_from g other hosts ys)
 same_captures at f g number other [] xs ys = refl
 same_captures at f g number other (host ∷ hosts) xs ys =
     touched_append at (files_by f host.name c host.capture) (captures_from f (number + 1) hosts xs)
@@ -159,5 +159,5 @@ same_captures at f g number other (host ∷ hosts) xs ys =
       d : Captured
       d = captured_by other host.address ys host.capture
 
-pub heads_touched : (at : Place) (hosts : List HostNames) (lines : List Line) → is_touched at (all_heads hosts) ≡ is_touched at (captures_from head 0 hosts lines)
+pub heads_touched : (at : SinkTarget) (hosts : List HostNames) (lines : List Line) → is_touched at (all_heads hosts) ≡ is_touched at (captures_from head 0 hosts lines)
 heads_touched at hosts lines = ap (is_touched at) (heads_are 0 hosts) ∙ same_captures at head head 0 0 hosts [] lines

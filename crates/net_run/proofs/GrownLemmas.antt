@@ -3,8 +3,8 @@
 use Rattle.std.proofs.Common.{◌≡◌, ℕ, ◌+◌, Bool, true, false, List, [], ◌∷◌, ◌++◌, map, refl, sym, ap, subst, ◌∙◌, append-nil}
 use Rattle.std.specs.Prelude.{◌||◌}
 use Rattle.run_outside.specs.Sink.{Content}
-use Rattle.run_outside.specs.declared.sink.Place.{Place}
-use Rattle.run_outside.specs.declared.sink.Place.TheVariants as place
+use Rattle.run_outside.specs.declared.sink.SinkTarget.{SinkTarget}
+use Rattle.run_outside.specs.declared.sink.SinkTarget.TheVariants as target
 use Rattle.file_calls.specs.declared.task.Output.{Output}
 use Rattle.host_state.specs.HostRecord.{HostRecord}
 use Rattle.host_state.specs.Opening.{opening}
@@ -23,7 +23,7 @@ use Rattle.run_files.specs.Files.{Put, log_name}
 use Rattle.file_calls.specs.Guest.{first_id}
 use Rattle.net_run.specs.Heads.{all_heads}
 use Rattle.net_run.specs.Pieces.{with_pieces}
-use Rattle.net_run.specs.Places.{is_place, bytes_at, is_touched}
+use Rattle.net_run.specs.Targets.{is_target, bytes_at, is_touched}
 use Rattle.net_run.specs.inside.Rest.{rest_in}
 use Rattle.net_run.specs.Shown.{run_pieces, captures_in}
 use Rattle.host_link.specs.Logs.{lines_of}
@@ -38,16 +38,16 @@ use Rattle.net_run.proofs.WholeLemmas.{Completes, around, more_grown_all, whole_
 
 -- ---- the opening
 
-none_by_process : (at : Place) (host : List ℕ) (p : ℕ) (processes : List ProcessListing) → bytes_at at (by_process (process_grown host []) p processes) ≡ []
+none_by_process : (at : SinkTarget) (host : List ℕ) (p : ℕ) (processes : List ProcessListing) → bytes_at at (by_process (process_grown host []) p processes) ≡ []
 none_by_process at host p [] = refl
 none_by_process at host p (process ∷ processes) =
-    empty (is_place (place.File (file_name host process.program (first_id + p) kind.Stdout)) at) _
-    ∙ empty (is_place (place.File (file_name host process.program (first_id + p) kind.Stderr)) at) _ ∙ none_by_process at host (p + 1) processes
+    empty (is_target (target.File (file_name host process.program (first_id + p) kind.Stdout)) at) _
+    ∙ empty (is_target (target.File (file_name host process.program (first_id + p) kind.Stderr)) at) _ ∙ none_by_process at host (p + 1) processes
 
 abbrev opened : List Row → List HostRecord
 opened rows = map (λ (row : Row). (opening row).host) rows
 
-none_by_hosts : (at : Place) (rows : List Row) → bytes_at at (hosts_grown (names_of_hosts (opened rows)) (written_by (opened rows))) ≡ []
+none_by_hosts : (at : SinkTarget) (rows : List Row) → bytes_at at (hosts_grown (names_of_hosts (opened rows)) (written_by (opened rows))) ≡ []
 none_by_hosts at [] = refl
 none_by_hosts at (row ∷ rows) =
     bytes_at_append at (host_grown (listed row) []) (hosts_grown (names_of_hosts (opened rows)) (written_by (opened rows)))
@@ -60,15 +60,15 @@ opened_names rows = names_of_hosts (opened rows)
 -- the heads
 pub opening_grown : (rows : List Row) → IsGrown (opening_world rows) (all_heads (names_in (opening_world rows)))
 opening_grown rows = record {
-  places = λ at e.
-      touched_second at (hosts_grown (opened_names rows) (written_by (opened rows))) (all_captures head (opened_names rows) [] ++ ((place.File log_name, []) ∷ []))
-      (touched_first at (all_captures head (opened_names rows) []) ((place.File log_name, []) ∷ []) (sym (heads_touched at (opened_names rows) []) ∙ e));
+  targets = λ at e.
+      touched_second at (hosts_grown (opened_names rows) (written_by (opened rows))) (all_captures head (opened_names rows) [] ++ ((target.File log_name, []) ∷ []))
+      (touched_first at (all_captures head (opened_names rows) []) ((target.File log_name, []) ∷ []) (sym (heads_touched at (opened_names rows) []) ∙ e));
   bytes = λ at.
       let captures = all_captures head (opened_names rows) [] in
       ap (bytes_at at) (heads_are 0 (opened_names rows))
-      ∙ sym (around at (hosts_grown (opened_names rows) (written_by (opened rows))) captures ((place.File log_name, []) ∷ [])
-      ∙ ap (λ (l : List ℕ). l ++ (bytes_at at captures ++ bytes_at at ((place.File log_name, []) ∷ []))) (none_by_hosts at rows)
-      ∙ ap (λ (l : List ℕ). bytes_at at captures ++ l) (empty (is_place (place.File log_name) at) []) ∙ append-nil (bytes_at at captures));
+      ∙ sym (around at (hosts_grown (opened_names rows) (written_by (opened rows))) captures ((target.File log_name, []) ∷ [])
+      ∙ ap (λ (l : List ℕ). l ++ (bytes_at at captures ++ bytes_at at ((target.File log_name, []) ∷ []))) (none_by_hosts at rows)
+      ∙ ap (λ (l : List ℕ). bytes_at at captures ++ l) (empty (is_target (target.File log_name) at) []) ∙ append-nil (bytes_at at captures));
   captures = λ at e. e;
 }
 
@@ -82,19 +82,19 @@ module _ (w v : World) (outputs : List (List Output)) (lines : List Line) (own :
   gained_is = ap (λ (names : List HostNames). grown_behind head names (written_by v.hosts) (lines_of w.log ++ lines)) (sym (names_kept w v outputs lines gains))
       ∙ ap (λ (ls : List Line). grown_behind head (names_in v) (written_by v.hosts) ls) (sym gains.log)
 
-  pub splits_round : (at : Place) → Splits at (grown_in w) gained (grown_in v)
+  pub splits_round : (at : SinkTarget) → Splits at (grown_in w) gained (grown_in v)
   splits_round at = subst (λ (zs : List Put). Splits at (grown_in w) gained zs) gained_is
       (more_grown_all at head (names_in w) (written_by w.hosts) outputs (written_by v.hosts) (lines_of w.log) lines (own_hosts w.hosts own) gains.written)
 
   module _ (puts : List Put) (grown : IsGrown w puts) where
-    touched_round : (at : Place) (a b : Bool) → is_touched at puts ≡ a → is_touched at (with_bytes gained) ≡ b → (a || b) ≡ true → is_touched at (grown_in v) ≡ true
-    touched_round at true b x y e = (splits_round at).first (grown.places at x)
+    touched_round : (at : SinkTarget) (a b : Bool) → is_touched at puts ≡ a → is_touched at (with_bytes gained) ≡ b → (a || b) ≡ true → is_touched at (grown_in v) ≡ true
+    touched_round at true b x y e = (splits_round at).first (grown.targets at x)
     touched_round at false true x y e = sym (splits_round at).second ∙ with_bytes_touched at gained y
     touched_round at false false x y e = absurd (cc)
 
     pub round_grown : IsGrown v (puts ++ with_bytes gained)
     round_grown = record {
-      places = λ at e. touched_round at (is_touched at puts) (is_touched at (with_bytes gained)) refl refl (sym (touched_append at puts (with_bytes gained)) ∙ e);
+      targets = λ at e. touched_round at (is_touched at puts) (is_touched at (with_bytes gained)) refl refl (sym (touched_append at puts (with_bytes gained)) ∙ e);
       bytes = λ at. bytes_at_append at puts (with_bytes gained) ∙ ap (λ (l : List ℕ). l ++ bytes_at at (with_bytes gained)) (grown.bytes at)
           ∙ ap (λ (l : List ℕ). bytes_at at (grown_in w) ++ l) (with_bytes_bytes at gained) ∙ sym (splits_round at).bytes;
       captures = λ at e. touched_first at puts (with_bytes gained) (grown.captures at (subst (λ (names : List HostNames). is_touched at (all_heads names) ≡ true) (names_kept w v outputs lines gains) e));
@@ -103,11 +103,11 @@ module _ (w v : World) (outputs : List (List Output)) (lines : List Line) (own :
 -- ---- the end
 
 module _ (load : Bool) (w : World) (own : HaveOwnFiles (names_in w)) (puts : List Put) (grown : IsGrown w puts) where
-  splits_end : (at : Place) → Completes at (captures_in w) (grown_in w) (rest_in load w) (run_pieces load w)
+  splits_end : (at : SinkTarget) → Completes at (captures_in w) (grown_in w) (rest_in load w) (run_pieces load w)
   splits_end at = whole_run at load w (own_hosts w.hosts own)
 
-  same_touched : (at : Place) (b : Bool) → is_touched at puts ≡ b → (b || is_touched at (rest_in load w)) ≡ is_touched at (run_pieces load w)
-  same_touched at true e = sym ((splits_end at).first (grown.places at e))
+  same_touched : (at : SinkTarget) (b : Bool) → is_touched at puts ≡ b → (b || is_touched at (rest_in load w)) ≡ is_touched at (run_pieces load w)
+  same_touched at true e = sym ((splits_end at).first (grown.targets at e))
   same_touched at false e = (splits_end at).second (go (is_touched at (captures_in w)) refl) where
     go : (b : Bool) → is_touched at (captures_in w) ≡ b → is_touched at (captures_in w) ≡ false
     go true there = absurd (let f : true ≡ false = sym (grown.captures at (heads_touched at (names_in w) (lines_of w.log) ∙ there)) ∙ e in cc)
@@ -117,4 +117,4 @@ module _ (load : Bool) (w : World) (own : HaveOwnFiles (names_in w)) (puts : Lis
   pub end_whole : (c : Content) → with_pieces (puts ++ rest_in load w) c ≡ with_pieces (run_pieces load w) c
   end_whole c = same_content (puts ++ rest_in load w) (run_pieces load w) c
       (λ at. bytes_at_append at puts (rest_in load w) ∙ ap (λ (l : List ℕ). l ++ bytes_at at (rest_in load w)) (grown.bytes at) ∙ sym (splits_end at).bytes)
-      (λ name. touched_append (place.File name) puts (rest_in load w) ∙ same_touched (place.File name) (is_touched (place.File name) puts) refl)
+      (λ name. touched_append (target.File name) puts (rest_in load w) ∙ same_touched (target.File name) (is_touched (target.File name) puts) refl)

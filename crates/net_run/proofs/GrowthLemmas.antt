@@ -3,8 +3,8 @@ use Rattle.std.proofs.Common.{◌≡◌, ℕ, suc, ◌+◌, ◌<◌, ◌≤◌, 
 use Rattle.std.specs.Prelude.{if◌then◌else◌, ◌||◌}
 use Rattle.std.specs.List.{AllByRecursion}
 use Rattle.std.proofs.lemmas.Grind.{flat_map-append}
-use Rattle.run_outside.specs.declared.sink.Place.{Place}
-use Rattle.run_outside.specs.declared.sink.Place.TheVariants as place
+use Rattle.run_outside.specs.declared.sink.SinkTarget.{SinkTarget}
+use Rattle.run_outside.specs.declared.sink.SinkTarget.TheVariants as target
 use Rattle.file_calls.specs.declared.task.Output.{Output}
 use Rattle.out_text.specs.Files.{file_name}
 use Rattle.out_text.specs.Laws.{lacks}
@@ -14,10 +14,10 @@ use Rattle.run_files.specs.Grown.{process_grown}
 use Rattle.run_files.specs.Listed.{by_process}
 use Rattle.run_files.specs.Files.{Put, written_to}
 use Rattle.file_calls.specs.Guest.{first_id}
-use Rattle.net_run.specs.Places.{is_place, is_touched}
+use Rattle.net_run.specs.Targets.{is_target, is_touched}
 use Rattle.net_run.specs.Shown.{files_named}
 use Rattle.run_files.specs.declared.listed.ProcessListing.{ProcessListing}
-use Rattle.net_run.proofs.FileLemmas.{IsNamed, IsFileOf, place_of_file, same_place, touched_named, other_file}
+use Rattle.net_run.proofs.FileLemmas.{IsNamed, IsFileOf, target_of_file, same_target, touched_named, other_file}
 use Rattle.net_run.proofs.NameLemmas.{same_file}
 use Rattle.net_run.proofs.SplitLemmas.{touched_append, Splits, splits_append}
 
@@ -53,12 +53,12 @@ more_bytes true false a b x y not_both = append-nil (a ++ x) ∙ ap (λ (l : Lis
 more_bytes false true a b x y not_both = append-nil (b ++ y) ∙ ap (λ (l : List ℕ). l ++ y) (sym (append-nil b)) ∙ ap (λ (l : List ℕ). (b ++ []) ++ l) (sym (append-nil y))
 more_bytes false false a b x y not_both = refl
 
-module _ (at : Place) (host program : List ℕ) (pid : ℕ) where
+module _ (at : SinkTarget) (host program : List ℕ) (pid : ℕ) where
   abbrev at_kind : FileKind → Bool
-  at_kind k = is_place (place.File (file_name host program pid k)) at
+  at_kind k = is_target (target.File (file_name host program pid k)) at
 
   abbrev pub two_files : List ℕ → List ℕ → List Put
-  two_files x y = (place.File (file_name host program pid kind.Stdout), x) ∷ (place.File (file_name host program pid kind.Stderr), y) ∷ []
+  two_files x y = (target.File (file_name host program pid kind.Stdout), x) ∷ (target.File (file_name host program pid kind.Stderr), y) ∷ []
 
   pub whole_of_process : (x y z : List ℕ) → Splits at (two_files x y) (files_named host program pid [] [] z) (files_named host program pid x y z)
   whole_of_process x y z = record {
@@ -73,7 +73,7 @@ module _ (at : Place) (host program : List ℕ) (pid : ℕ) where
   module _ (plain : lacks 47 program ≡ true) (small : pid < 2 ^ 64) where
     not_both_is : at_kind kind.Stdout ≡ true → at_kind kind.Stderr ≡ true → ⊥
     not_both_is i j =
-        let name : file_name host program pid kind.Stdout ≡ file_name host program pid kind.Stderr = same_place _ _ at (place_of_file _ at i) (place_of_file _ at j) in
+        let name : file_name host program pid kind.Stdout ≡ file_name host program pid kind.Stderr = same_target _ _ at (target_of_file _ at i) (target_of_file _ at j) in
         let same : kind.Stdout ≡ kind.Stderr = (same_file host host program program pid pid kind.Stdout kind.Stderr plain plain small small name).3 in
         cc
 
@@ -84,7 +84,7 @@ module _ (at : Place) (host program : List ℕ) (pid : ℕ) where
 pub written_append : (p d : ℕ) (xs ys : List Output) → written_to p d (xs ++ ys) ≡ written_to p d xs ++ written_to p d ys
 written_append p d xs ys = flat_map-append (λ (o : Output). if (o.process == p) && (o.descriptor == d) then o.bytes else []) xs ys
 
-pub more_grown : (at : Place) (host : List ℕ) (xs ys : List Output) (p : ℕ) (process : ProcessListing) → HasNoSlash process → first_id + p < 2 ^ 64
+pub more_grown : (at : SinkTarget) (host : List ℕ) (xs ys : List Output) (p : ℕ) (process : ProcessListing) → HasNoSlash process → first_id + p < 2 ^ 64
     → Splits at (process_grown host xs p process) (process_grown host ys p process) (process_grown host (xs ++ ys) p process)
 more_grown at host xs ys p process plain small =
     subst (λ (zs : List Put). Splits at (process_grown host xs p process) (process_grown host ys p process) zs)
@@ -95,10 +95,10 @@ more_grown at host xs ys p process plain small =
 -- ---- process by process
 
 -- the file of one process
-pub file_of_one : (host : List ℕ) (p : ℕ) (process : ProcessListing) (at : Place) → HasNoSlash process → IsNamed host process.program (first_id + p) at → IsFileOf host p (p + 1) at
+pub file_of_one : (host : List ℕ) (p : ℕ) (process : ProcessListing) (at : SinkTarget) → HasNoSlash process → IsNamed host process.program (first_id + p) at → IsFileOf host p (p + 1) at
 file_of_one host p process at plain named = record { number = p; later = omega arith; below = omega arith; program = process.program; plain = plain; named = named }
 
-module _ (at : Place) (host : List ℕ) (whole : ℕ → ProcessListing → List Put) (named : (p : ℕ) (process : ProcessListing) → is_touched at (whole p process) ≡ true → IsNamed host process.program (first_id + p) at) where
+module _ (at : SinkTarget) (host : List ℕ) (whole : ℕ → ProcessListing → List Put) (named : (p : ℕ) (process : ProcessListing) → is_touched at (whole p process) ≡ true → IsNamed host process.program (first_id + p) at) where
   pub touched_processes : (p : ℕ) (processes : List ProcessListing) → AllByRecursion HasNoSlash processes → is_touched at (by_process whole p processes) ≡ true → IsFileOf host p (p + length processes) at
   touched_processes p [] plain e = absurd (cc)
   touched_processes p (process ∷ processes) plain e =

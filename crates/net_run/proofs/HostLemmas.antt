@@ -6,7 +6,7 @@ use Rattle.std.specs.Str.{bytes_eq}
 use Rattle.std.proofs.lemmas.List.Elements.{recursion_from_All}
 use Rattle.std.proofs.lemmas.Map.Keys.{IsDistinct-head, IsDistinct-tail}
 use Rattle.std.proofs.lemmas.Slice.Eq.{bytes_eq-Decides}
-use Rattle.run_outside.specs.declared.sink.Place.{Place}
+use Rattle.run_outside.specs.declared.sink.SinkTarget.{SinkTarget}
 use Rattle.sim_base.specs.declared.state.State.{State}
 use Rattle.file_calls.specs.declared.task.Output.{Output}
 use Rattle.host_state.specs.HostRecord.{HostRecord, state_in, process_state}
@@ -20,7 +20,7 @@ use Rattle.net_run.specs.Grown.{HaveOwnFiles}
 use Rattle.run_files.specs.Listed.{HostNames, HasIds, listed, listed_process, by_process, by_host}
 use Rattle.run_files.specs.Files.{Put, program_of, written_to}
 use Rattle.file_calls.specs.Guest.{first_id}
-use Rattle.net_run.specs.Places.{is_touched}
+use Rattle.net_run.specs.Targets.{is_touched}
 use Rattle.net_run.specs.Rest.{state_at, process_rest, host_rest, hosts_rest}
 use Rattle.net_run.specs.Shown.{files_named, files_from, host_files}
 use Rattle.run_files.specs.declared.listed.ProcessListing.{ProcessListing}
@@ -61,7 +61,7 @@ own_each (h ∷ hs) apart ids = (
 pub own_hosts : (hs : List HostRecord) → HaveOwnFiles (names_of_hosts hs) → AreOwn (names_of_hosts hs)
 own_hosts hs own = own_each hs own.names (recursion_from_All HasIds (names_of_hosts hs) own.ids)
 
-module _ {X : Type 0} (at : Place) (whole : HostNames → X → List Put)
+module _ {X : Type 0} (at : SinkTarget) (whole : HostNames → X → List Put)
     (named : (host : HostNames) (x : X) → IsOwn host → is_touched at (whole host x) ≡ true → IsFileOf host.name 0 (0 + length host.processes) at) where
   -- a file of a host isn't one of those behind it
   pub none_later : (name : List ℕ) (to : ℕ) (hosts : List HostNames) (xs : List X) → IsFileOf name 0 to at → to ≤ 2 ^ 32
@@ -96,19 +96,19 @@ module _ {X : Type 0} (at : Place) (whole : HostNames → X → List Put)
 
 -- ---- what hosts wrote
 
-pub file_grown : (at : Place) (host : HostNames) (outputs : List Output) → IsOwn host → is_touched at (host_grown host outputs) ≡ true → IsFileOf host.name 0 (0 + length host.processes) at
+pub file_grown : (at : SinkTarget) (host : HostNames) (outputs : List Output) → IsOwn host → is_touched at (host_grown host outputs) ≡ true → IsFileOf host.name 0 (0 + length host.processes) at
 file_grown at host outputs own e =
     touched_processes at host.name (process_grown host.name outputs) (λ p process t. touched_two at host.name process.program (first_id + p) (written_to p 1 outputs) (written_to p 2 outputs) t)
     0 host.processes own.plain e
 
-more_host : (at : Place) (host : HostNames) (xs ys : List Output) → IsOwn host → Splits at (host_grown host xs) (host_grown host ys) (host_grown host (xs ++ ys))
+more_host : (at : SinkTarget) (host : HostNames) (xs ys : List Output) → IsOwn host → Splits at (host_grown host xs) (host_grown host ys) (host_grown host (xs ++ ys))
 more_host at host xs ys own =
     let ids = own.ids in
     splits_processes at host.name (process_grown host.name (xs ++ ys))
     (λ p process t. touched_two at host.name process.program (first_id + p) (written_to p 1 (xs ++ ys)) (written_to p 2 (xs ++ ys)) t)
     (process_grown host.name xs) (process_grown host.name ys) (λ p process plain small. more_grown at host.name xs ys p process plain small) 0 host.processes own.plain (omega arith)
 
-pub more_hosts : (at : Place) (hosts : List HostNames) (xs ys zs : List (List Output)) → AreOwn hosts → AreGained xs ys zs → Splits at (hosts_grown hosts xs) (hosts_grown hosts ys) (hosts_grown hosts zs)
+pub more_hosts : (at : SinkTarget) (hosts : List HostNames) (xs ys zs : List (List Output)) → AreOwn hosts → AreGained xs ys zs → Splits at (hosts_grown hosts xs) (hosts_grown hosts ys) (hosts_grown hosts zs)
 more_hosts at [] xs ys zs own gained = record { bytes = refl; first = λ e. e; second = refl }
 more_hosts at (host ∷ hosts) [] [] [] own gained = record { bytes = refl; first = λ e. e; second = refl }
 more_hosts at (host ∷ hosts) [] [] (z ∷ zs) own gained = absurd gained
@@ -146,12 +146,12 @@ module _ (h : HostRecord) where
       ap (λ (l : List Put). process_whole p (listed_process row) ++ l) (files_listed (p + 1) rows)
       ∙ ap (λ (s : State). files_named h.row.name (program_of row.path) (first_id + p) (written_to p 1 h.written) (written_to p 2 h.written) (state_line s) ++ files_from h (p + 1) rows) (state_of_host h p)
 
-pub file_rest : (at : Place) (host : HostNames) (states : List State) → IsOwn host → is_touched at (host_rest host states) ≡ true → IsFileOf host.name 0 (0 + length host.processes) at
+pub file_rest : (at : SinkTarget) (host : HostNames) (states : List State) → IsOwn host → is_touched at (host_rest host states) ≡ true → IsFileOf host.name 0 (0 + length host.processes) at
 file_rest at host states own e =
     touched_processes at host.name (process_rest host.name states) (λ p process t. touched_named at host.name process.program (first_id + p) [] [] (state_line (state_at states p)) t)
     0 host.processes own.plain e
 
-whole_host : (at : Place) (h : HostRecord) → IsOwn (listed h.row) → Splits at (host_grown (listed h.row) h.written) (host_rest (listed h.row) (map state_of h.processes)) (host_files h)
+whole_host : (at : SinkTarget) (h : HostRecord) → IsOwn (listed h.row) → Splits at (host_grown (listed h.row) h.written) (host_rest (listed h.row) (map state_of h.processes)) (host_files h)
 whole_host at h own =
     let ids = own.ids in
     let name = h.row.name in
@@ -168,7 +168,7 @@ written_by hs = map (λ (h : HostRecord). h.written) hs
 abbrev pub states_by : List HostRecord → List (List State)
 states_by hs = map (λ (h : HostRecord). map state_of h.processes) hs
 
-pub whole_hosts : (at : Place) (hs : List HostRecord) → AreOwn (names_of_hosts hs)
+pub whole_hosts : (at : SinkTarget) (hs : List HostRecord) → AreOwn (names_of_hosts hs)
     → Splits at (hosts_grown (names_of_hosts hs) (written_by hs)) (hosts_rest (names_of_hosts hs) (states_by hs)) (flat_map host_files hs)
 whole_hosts at [] own = record { bytes = refl; first = λ e. e; second = refl }
 whole_hosts at (h ∷ hs) own =

@@ -1,6 +1,6 @@
 -- The notes of a configuration and the heads of captures, one behind another.
 use Rattle.std.proofs.Common.{◌≡◌, ℕ, ◌+◌, ◌<◌, true, false, List, [], ◌∷◌, ◌++◌, length, drop, get_or, Option, Some, sym, ap, ◌∙◌, append_assoc}
-use Rattle.run_outside.specs.declared.sink.Place.TheVariants as place
+use Rattle.run_outside.specs.declared.sink.SinkTarget.TheVariants as target
 use Rattle.out_text.specs.Files.{capture_name}
 use Rattle.pcap_text.specs.Writing.{head}
 use Rattle.run_files.specs.Files.{Put}
@@ -17,8 +17,8 @@ notes_step notes i note old new whole below is new_is so_far =
 
 -- the heads of both captures of a host
 pub heads_two : (old first second : List Put) (name told : List ℕ) (size : ℕ) (capture : Option ℕ) → capture ≡ Some size → told ≡ name
-    → first ≡ old ++ ((place.File (capture_name told false), head size) ∷ []) → second ≡ first ++ ((place.File (capture_name told true), head size) ∷ []) → second ≡ old ++ heads_by name capture
+    → first ≡ old ++ ((target.File (capture_name told false), head size) ∷ []) → second ≡ first ++ ((target.File (capture_name told true), head size) ∷ []) → second ≡ old ++ heads_by name capture
 heads_two old first second name told size capture is same one two =
-    two ∙ ap (λ (l : List Put). l ++ ((place.File (capture_name told true), head size) ∷ [])) one
-    ∙ append_assoc old ((place.File (capture_name told false), head size) ∷ []) ((place.File (capture_name told true), head size) ∷ [])
+    two ∙ ap (λ (l : List Put). l ++ ((target.File (capture_name told true), head size) ∷ [])) one
+    ∙ append_assoc old ((target.File (capture_name told false), head size) ∷ []) ((target.File (capture_name told true), head size) ∷ [])
     ∙ ap (λ (host : List ℕ). old ++ heads_by host (Some size)) same ∙ ap (λ (o : Option ℕ). old ++ heads_by name o) (sym is)

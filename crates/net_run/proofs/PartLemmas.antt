@@ -5,8 +5,8 @@ use Rattle.std.specs.Option.{unwrap_or}
 use Rattle.std.specs.Str.{bytes_eq}
 use Rattle.std.proofs.lemmas.List.{take-append-drop}
 use Rattle.run_outside.specs.Sink.{Content, add, AddsFront}
-use Rattle.run_outside.specs.declared.sink.Place.{Place}
-use Rattle.run_outside.specs.declared.sink.Place.TheVariants as place
+use Rattle.run_outside.specs.declared.sink.SinkTarget.{SinkTarget}
+use Rattle.run_outside.specs.declared.sink.SinkTarget.TheVariants as target
 use Rattle.run_files.specs.Files.{Put}
 use Rattle.net_run.specs.Pieces.{with_pieces, PutsFront}
 use Rattle.net_run.specs.Parts.{IsFrontOf, IsPrefix, Grows, Between}
@@ -44,10 +44,10 @@ added_file true None piece = tt
 added_file true (Some xs) piece = (piece, refl)
 added_file false was piece = front_refl was
 
-pub Grows_add : (p : Place) (piece : List ℕ) (c : Content) → Grows c (add p piece c)
-Grows_add place.Out piece c = record { there = refl; out = record { rest = piece; whole = refl }; err = prefix_refl c.err; files = λ name. front_refl (c.files name) }
-Grows_add place.Err piece c = record { there = refl; out = prefix_refl c.out; err = record { rest = piece; whole = refl }; files = λ name. front_refl (c.files name) }
-Grows_add (place.File file) piece c = record { there = refl; out = prefix_refl c.out; err = prefix_refl c.err; files = λ name. added_file (bytes_eq file name) (c.files name) piece }
+pub Grows_add : (p : SinkTarget) (piece : List ℕ) (c : Content) → Grows c (add p piece c)
+Grows_add target.Out piece c = record { there = refl; out = record { rest = piece; whole = refl }; err = prefix_refl c.err; files = λ name. front_refl (c.files name) }
+Grows_add target.Err piece c = record { there = refl; out = prefix_refl c.out; err = record { rest = piece; whole = refl }; files = λ name. front_refl (c.files name) }
+Grows_add (target.File file) piece c = record { there = refl; out = prefix_refl c.out; err = prefix_refl c.err; files = λ name. added_file (bytes_eq file name) (c.files name) piece }
 
 -- a front of a piece, and the whole of it
 take_whole : (n : ℕ) (xs : List ℕ) → xs ≡ take n xs ++ drop n xs
@@ -61,16 +61,16 @@ front_of_added false was n piece = front_refl was
 pub prefix_of_added : (xs : List ℕ) (n : ℕ) (piece : List ℕ) → IsPrefix (xs ++ take n piece) (xs ++ piece)
 prefix_of_added xs n piece = record { rest = drop n piece; whole = ap (λ (ts : List ℕ). xs ++ ts) (take_whole n piece) ∙ sym (append_assoc xs (take n piece) (drop n piece)) }
 
-pub Grows_front : (p : Place) (n : ℕ) (piece : List ℕ) (c : Content) → Grows (add p (take n piece) c) (add p piece c)
-Grows_front place.Out n piece c = record { there = refl; out = prefix_of_added c.out n piece; err = prefix_refl c.err; files = λ name. front_refl (c.files name) }
-Grows_front place.Err n piece c = record { there = refl; out = prefix_refl c.out; err = prefix_of_added c.err n piece; files = λ name. front_refl (c.files name) }
-Grows_front (place.File file) n piece c = record { there = refl; out = prefix_refl c.out; err = prefix_refl c.err; files = λ name. front_of_added (bytes_eq file name) (c.files name) n piece }
+pub Grows_front : (p : SinkTarget) (n : ℕ) (piece : List ℕ) (c : Content) → Grows (add p (take n piece) c) (add p piece c)
+Grows_front target.Out n piece c = record { there = refl; out = prefix_of_added c.out n piece; err = prefix_refl c.err; files = λ name. front_refl (c.files name) }
+Grows_front target.Err n piece c = record { there = refl; out = prefix_refl c.out; err = prefix_of_added c.err n piece; files = λ name. front_refl (c.files name) }
+Grows_front (target.File file) n piece c = record { there = refl; out = prefix_refl c.out; err = prefix_refl c.err; files = λ name. front_of_added (bytes_eq file name) (c.files name) n piece }
 
 pub Grows_with_pieces : (puts : List Put) (c : Content) → Grows c (with_pieces puts c)
 Grows_with_pieces [] c = Grows-refl c
 Grows_with_pieces (put ∷ puts) c = Grows-trans _ _ _ (Grows_add put.0 put.1 c) (Grows_with_pieces puts (add put.0 put.1 c))
 
-pub between_front : (p : Place) (piece : List ℕ) (c whole : Content) (new : Option Content) → Grows (add p piece c) whole → AddsFront p piece (Some c) new → Between c new whole
+pub between_front : (p : SinkTarget) (piece : List ℕ) (c whole : Content) (new : Option Content) → Grows (add p piece c) whole → AddsFront p piece (Some c) new → Between c new whole
 between_front p piece c whole new on front =
     ⊎_elim
     (λ (same : new ≡ Some c). record { now = c; now_is = same; grown = Grows-refl c; rest = Grows-trans _ _ _ (Grows_add p piece c) on })

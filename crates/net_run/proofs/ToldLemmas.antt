@@ -5,7 +5,7 @@ use Rattle.std.specs.List.{AllByRecursion, IsDistinct, fold}
 use Rattle.std.specs.Str.{bytes_eq}
 use Rattle.std.proofs.lemmas.Slice.Eq.{bytes_eq-Decides}
 use Rattle.sim_base.specs.declared.act.Act.{Act}
-use Rattle.run_outside.specs.declared.sink.Place.TheVariants as place
+use Rattle.run_outside.specs.declared.sink.SinkTarget.TheVariants as target
 use Rattle.sim_base.specs.declared.state.State.{State}
 use Rattle.sim_base.specs.declared.state.State.TheVariants.{NotStarted}
 use Rattle.host_state.specs.HostRecord.{HostRecord}
@@ -120,7 +120,7 @@ module _ (w : World) (states : List (List State)) (count : length states ≡ len
   rest_told load =
       ap (λ (l : List Put). l ++ ending (names_in w) states (summary_in load w))
       (same_by_host rest.process_rest (λ name xs ys p process e. ap (λ (s : State). files_named name process.program (first_id + p) [] [] (state_line s)) e) w.hosts states count tells)
-      ∙ ap (λ (l : List Put). rest.hosts_rest (names_in w) (states_in w) ++ ((place.File log_name, []) ∷ (l ++ summary_rest (summary_in load w)))) unmet_told
+      ∙ ap (λ (l : List Put). rest.hosts_rest (names_in w) (states_in w) ++ ((target.File log_name, []) ∷ (l ++ summary_rest (summary_in load w)))) unmet_told
 
 -- ---- the summary
 

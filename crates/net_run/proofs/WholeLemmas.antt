@@ -3,8 +3,8 @@ use Rattle.std.proofs.Common.{◌≡◌, ℕ, zero, suc, ◌+◌, Bool, true, fa
 use Rattle.std.specs.Prelude.{◌||◌, if◌then◌else◌, flat_map}
 use Rattle.std.proofs.lemmas.Grind.{flat_map-append}
 use Rattle.std.proofs.lemmas.List.{map-append}
-use Rattle.run_outside.specs.declared.sink.Place.{Place}
-use Rattle.run_outside.specs.declared.sink.Place.TheVariants as place
+use Rattle.run_outside.specs.declared.sink.SinkTarget.{SinkTarget}
+use Rattle.run_outside.specs.declared.sink.SinkTarget.TheVariants as target
 use Rattle.sim_base.specs.declared.state.State.{State}
 use Rattle.file_calls.specs.declared.task.Output.{Output}
 use Rattle.host_state.specs.HostRecord.{HostRecord, process_state}
@@ -23,7 +23,7 @@ use Rattle.net_run.specs.Grown.{grown_in}
 use Rattle.run_files.specs.Listed.{HostNames, listed_process, by_process}
 use Rattle.run_files.specs.Files.{Put, program_of, log_name, expected_state}
 use Rattle.file_calls.specs.Guest.{first_id}
-use Rattle.net_run.specs.Places.{is_place, bytes_at, is_touched}
+use Rattle.net_run.specs.Targets.{is_target, bytes_at, is_touched}
 use Rattle.net_run.specs.Rest as rest
 use Rattle.net_run.specs.Rest.{ending, summary_in, summary_rest}
 use Rattle.net_run.specs.inside.Rest.{rest_in, states_in}
@@ -32,7 +32,7 @@ use Rattle.host_link.specs.Logs.{lines_of}
 use Rattle.net_run.specs.World.{World}
 use Rattle.net_run.proofs.CaptureLemmas.{IsCapture, some_capture, more_captures}
 use Rattle.net_run.proofs.ContentLemmas.{untouched_bytes}
-use Rattle.net_run.proofs.FileLemmas.{IsFileOf, same_place, place_of_file}
+use Rattle.net_run.proofs.FileLemmas.{IsFileOf, same_target, target_of_file}
 use Rattle.net_run.proofs.HostLemmas.{AreOwn, names_of_hosts, written_by, states_by, some_file, file_grown, file_rest, more_hosts, whole_hosts, state_of_host}
 use Rattle.net_run.proofs.NameLemmas.{log_is_no_file, log_is_no_capture, capture_is_no_file}
 use Rattle.net_run.proofs.SplitLemmas.{bytes_at_append, touched_append, Splits, splits_append}
@@ -47,39 +47,39 @@ more_text : (hosts : List HostNames) (xs ys : List Line) → flat_map log_line (
 more_text hosts xs ys = ap (flat_map log_line) (map-append (told_line hosts) xs ys) ∙ flat_map-append log_line (map (told_line hosts) xs) (map (told_line hosts) ys)
 
 abbrev in_log : List ℕ → Put
-in_log text = (place.File log_name, text)
+in_log text = (target.File log_name, text)
 
-more_log : (at : Place) (hosts : List HostNames) (xs ys : List Line) → Splits at (log_grown hosts xs ∷ []) (log_grown hosts ys ∷ []) (log_grown hosts (xs ++ ys) ∷ [])
+more_log : (at : SinkTarget) (hosts : List HostNames) (xs ys : List Line) → Splits at (log_grown hosts xs ∷ []) (log_grown hosts ys ∷ []) (log_grown hosts (xs ++ ys) ∷ [])
 more_log at hosts xs ys =
     let x = flat_map log_line (map (told_line hosts) xs) in
     let y = flat_map log_line (map (told_line hosts) ys) in
-    let both : Splits at (in_log x ∷ []) (in_log y ∷ []) (in_log (x ++ y) ∷ []) = record { bytes = one_bytes (is_place (place.File log_name) at) x y; first = λ e. e; second = refl } in
+    let both : Splits at (in_log x ∷ []) (in_log y ∷ []) (in_log (x ++ y) ∷ []) = record { bytes = one_bytes (is_target (target.File log_name) at) x y; first = λ e. e; second = refl } in
     subst (λ (text : List ℕ). Splits at (in_log x ∷ []) (in_log y ∷ []) (in_log text ∷ [])) (sym (more_text hosts xs ys)) both
 
 -- a process's file isn't the packet log
-no_log : (at : Place) → (name : List ℕ) × (to : ℕ) × IsFileOf name 0 to at → at ≡ place.File log_name → ⊥
-no_log at (name, to, file) is = log_is_no_file name file.program _ file.named.kind (same_place _ _ at is file.named.is)
+no_log : (at : SinkTarget) → (name : List ℕ) × (to : ℕ) × IsFileOf name 0 to at → at ≡ target.File log_name → ⊥
+no_log at (name, to, file) is = log_is_no_file name file.program _ file.named.kind (same_target _ _ at is file.named.is)
 
-is_log : (at : Place) (b : Bool) → is_place (place.File log_name) at ≡ b → (b || false) ≡ true → at ≡ place.File log_name
-is_log at true e t = place_of_file log_name at e
+is_log : (at : SinkTarget) (b : Bool) → is_target (target.File log_name) at ≡ b → (b || false) ≡ true → at ≡ target.File log_name
+is_log at true e t = target_of_file log_name at e
 is_log at false e t = absurd (cc)
 
 -- a capture isn't the packet log, and not a process's file
-no_log_capture : (at : Place) → (name : List ℕ) × IsCapture name at → at ≡ place.File log_name → ⊥
-no_log_capture at (name, capture) is = log_is_no_capture name capture.loopback (same_place _ _ at is capture.is)
+no_log_capture : (at : SinkTarget) → (name : List ℕ) × IsCapture name at → at ≡ target.File log_name → ⊥
+no_log_capture at (name, capture) is = log_is_no_capture name capture.loopback (same_target _ _ at is capture.is)
 
-no_file_capture : (at : Place) → (name : List ℕ) × IsCapture name at → (name : List ℕ) × (to : ℕ) × IsFileOf name 0 to at → ⊥
-no_file_capture at (name, capture) (host, to, file) = capture_is_no_file name host file.program capture.loopback _ file.named.kind (same_place _ _ at capture.is file.named.is)
+no_file_capture : (at : SinkTarget) → (name : List ℕ) × IsCapture name at → (name : List ℕ) × (to : ℕ) × IsFileOf name 0 to at → ⊥
+no_file_capture at (name, capture) (host, to, file) = capture_is_no_file name host file.program capture.loopback _ file.named.kind (same_target _ _ at capture.is file.named.is)
 
 -- one of two lists
-in_either : (at : Place) (ps qs : List Put) → is_touched at (ps ++ qs) ≡ true → (is_touched at ps ≡ true → ⊥) → (is_touched at qs ≡ true → ⊥) → ⊥
+in_either : (at : SinkTarget) (ps qs : List Put) → is_touched at (ps ++ qs) ≡ true → (is_touched at ps ≡ true → ⊥) → (is_touched at qs ≡ true → ⊥) → ⊥
 in_either at ps qs e first second = go (is_touched at ps) (is_touched at qs) refl refl (sym (touched_append at ps qs) ∙ e) where
   go : (a b : Bool) → is_touched at ps ≡ a → is_touched at qs ≡ b → (a || b) ≡ true → ⊥
   go true b x y t = first x
   go false true x y t = second y
   go false false x y t = cc
 
-module _ (at : Place) (front : ℕ → List ℕ) (hosts : List HostNames) (xs ys zs : List (List Output)) (k l : List Line) (own : AreOwn hosts) (gained : AreGained xs ys zs) where
+module _ (at : SinkTarget) (front : ℕ → List ℕ) (hosts : List HostNames) (xs ys zs : List (List Output)) (k l : List Line) (own : AreOwn hosts) (gained : AreGained xs ys zs) where
   abbrev captures_and_log : (ℕ → List ℕ) → List Line → List Put
   captures_and_log f lines = all_captures f hosts lines ++ (log_grown hosts lines ∷ [])
 
@@ -87,7 +87,7 @@ module _ (at : Place) (front : ℕ → List ℕ) (hosts : List HostNames) (xs ys
   more_behind =
       splits_append at (all_captures front hosts k) (all_captures no_head hosts l) (all_captures front hosts (k ++ l)) (log_grown hosts k ∷ []) (log_grown hosts l ∷ []) (log_grown hosts (k ++ l) ∷ [])
       (more_captures at front 0 hosts k l own) (more_log at hosts k l)
-      (λ here log. no_log_capture at (some_capture at front 0 hosts (k ++ l) here) (is_log at (is_place (place.File log_name) at) refl log))
+      (λ here log. no_log_capture at (some_capture at front 0 hosts (k ++ l) here) (is_log at (is_target (target.File log_name) at) refl log))
 
   pub more_grown_all : Splits at (grown_behind front hosts xs k) (all_grown hosts ys l) (grown_behind front hosts zs (k ++ l))
   more_grown_all =
@@ -97,7 +97,7 @@ module _ (at : Place) (front : ℕ → List ℕ) (hosts : List HostNames) (xs ys
       let file = some_file at host_grown (file_grown at) hosts zs own here in
       in_either at (all_captures front hosts (k ++ l)) (log_grown hosts (k ++ l) ∷ []) other
       (λ c. no_file_capture at (some_capture at front 0 hosts (k ++ l) c) file)
-      (λ log. no_log at file (is_log at (is_place (place.File log_name) at) refl log)))
+      (λ log. no_log at file (is_log at (is_target (target.File log_name) at) refl log)))
 
 -- ---- what is told of a world
 
@@ -135,32 +135,32 @@ summary_of_world : (load : Bool) (w : World) → summary_rest (summary_in load w
 summary_of_world true w = refl
 summary_of_world false w = refl
 
-pub ending_of_world : (load : Bool) (w : World) → ending (names_in w) (states_in w) (summary_in load w) ≡ (place.File log_name, []) ∷ (unmet w ++ summary load w)
+pub ending_of_world : (load : Bool) (w : World) → ending (names_in w) (states_in w) (summary_in load w) ≡ (target.File log_name, []) ∷ (unmet w ++ summary load w)
 ending_of_world load w =
     ap (λ (l : List Put). in_log [] ∷ (l ++ summary_rest (summary_in load w))) (unmet_of_world w) ∙ ap (λ (l : List Put). in_log [] ∷ (unmet w ++ l)) (summary_of_world load w)
 
 -- ---- nothing of it is in a file
 
-not_in_file : (name host program : List ℕ) (pid : ℕ) (expected state : State) → is_touched (place.File name) (unmet_by host program pid expected state) ≡ false
+not_in_file : (name host program : List ℕ) (pid : ℕ) (expected state : State) → is_touched (target.File name) (unmet_by host program pid expected state) ≡ false
 not_in_file name host program pid expected state = go (meets expected state) where
-  go : (b : Bool) → is_touched (place.File name) (if b then [] else (place.Err, unmet_line (process_text host program pid) (state_text state) (state_text expected)) ∷ []) ≡ false
+  go : (b : Bool) → is_touched (target.File name) (if b then [] else (target.Err, unmet_line (process_text host program pid) (state_text state) (state_text expected)) ∷ []) ≡ false
   go true = refl
   go false = refl
 
-neither : (at : Place) (ps qs : List Put) → is_touched at ps ≡ false → is_touched at qs ≡ false → is_touched at (ps ++ qs) ≡ false
+neither : (at : SinkTarget) (ps qs : List Put) → is_touched at ps ≡ false → is_touched at qs ≡ false → is_touched at (ps ++ qs) ≡ false
 neither at ps qs p q = touched_append at ps qs ∙ ap (λ (b : Bool). b || is_touched at qs) p ∙ q
 
-unmet_in_no_file : (name : List ℕ) (h : HostRecord) (p : ℕ) (rows : List ProcessRow) → is_touched (place.File name) (unmet_from h p rows) ≡ false
+unmet_in_no_file : (name : List ℕ) (h : HostRecord) (p : ℕ) (rows : List ProcessRow) → is_touched (target.File name) (unmet_from h p rows) ≡ false
 unmet_in_no_file name h p [] = refl
 unmet_in_no_file name h p (row ∷ rows) =
-    neither (place.File name) (process_unmet h p row) (unmet_from h (p + 1) rows) (not_in_file name h.row.name (program_of row.path) (first_id + p) (expected_state row.expected) (process_state p h))
+    neither (target.File name) (process_unmet h p row) (unmet_from h (p + 1) rows) (not_in_file name h.row.name (program_of row.path) (first_id + p) (expected_state row.expected) (process_state p h))
     (unmet_in_no_file name h (p + 1) rows)
 
-all_in_no_file : (name : List ℕ) (hs : List HostRecord) → is_touched (place.File name) (flat_map host_unmet hs) ≡ false
+all_in_no_file : (name : List ℕ) (hs : List HostRecord) → is_touched (target.File name) (flat_map host_unmet hs) ≡ false
 all_in_no_file name [] = refl
-all_in_no_file name (h ∷ hs) = neither (place.File name) (host_unmet h) (flat_map host_unmet hs) (unmet_in_no_file name h 0 h.row.processes) (all_in_no_file name hs)
+all_in_no_file name (h ∷ hs) = neither (target.File name) (host_unmet h) (flat_map host_unmet hs) (unmet_in_no_file name h 0 h.row.processes) (all_in_no_file name hs)
 
-summary_in_no_file : (name : List ℕ) (load : Bool) (w : World) → is_touched (place.File name) (summary load w) ≡ false
+summary_in_no_file : (name : List ℕ) (load : Bool) (w : World) → is_touched (target.File name) (summary load w) ≡ false
 summary_in_no_file name true w = refl
 summary_in_no_file name false w = refl
 
@@ -174,24 +174,24 @@ or_more : (b c : Bool) → (b || false) ≡ true → (b || c) ≡ true
 or_more true c e = refl
 or_more false c e = absurd (cc)
 
-log_and_rest : (at : Place) (text : List ℕ) (others : List Put) → Splits at (in_log text ∷ []) (in_log [] ∷ others) (in_log text ∷ others)
+log_and_rest : (at : SinkTarget) (text : List ℕ) (others : List Put) → Splits at (in_log text ∷ []) (in_log [] ∷ others) (in_log text ∷ others)
 log_and_rest at text others = record {
-  bytes = rest_bytes (is_place (place.File log_name) at) text (bytes_at at others);
-  first = λ e. or_more (is_place (place.File log_name) at) (is_touched at others) e;
+  bytes = rest_bytes (is_target (target.File log_name) at) text (bytes_at at others);
+  first = λ e. or_more (is_target (target.File log_name) at) (is_touched at others) e;
   second = refl;
 }
 
--- the third has at each place the bytes of the first and then those of the second; the first puts at places of the third, and the second at
+-- the third has at each target the bytes of the first and then those of the second; the first puts at targets of the third, and the second at
 -- all of them but those of what is kept
-pub record Completes (at : Place) (kept xs ys zs : List Put) : Type 0 where
+pub record Completes (at : SinkTarget) (kept xs ys zs : List Put) : Type 0 where
   pub bytes : bytes_at at zs ≡ bytes_at at xs ++ bytes_at at ys
   pub first : is_touched at xs ≡ true → is_touched at zs ≡ true
   pub second : is_touched at kept ≡ false → is_touched at ys ≡ is_touched at zs
 
-pub around : (at : Place) (xs kept ys : List Put) → bytes_at at (xs ++ (kept ++ ys)) ≡ bytes_at at xs ++ (bytes_at at kept ++ bytes_at at ys)
+pub around : (at : SinkTarget) (xs kept ys : List Put) → bytes_at at (xs ++ (kept ++ ys)) ≡ bytes_at at xs ++ (bytes_at at kept ++ bytes_at at ys)
 around at xs kept ys = bytes_at_append at xs (kept ++ ys) ∙ ap (λ (l : List ℕ). bytes_at at xs ++ l) (bytes_at_append at kept ys)
 
-around_touched : (at : Place) (xs kept ys : List Put) → is_touched at (xs ++ (kept ++ ys)) ≡ (is_touched at kept || is_touched at (xs ++ ys))
+around_touched : (at : SinkTarget) (xs kept ys : List Put) → is_touched at (xs ++ (kept ++ ys)) ≡ (is_touched at kept || is_touched at (xs ++ ys))
 around_touched at xs kept ys =
     touched_append at xs (kept ++ ys) ∙ ap (λ (b : Bool). is_touched at xs || b) (touched_append at kept ys)
     ∙ swap (is_touched at xs) (is_touched at kept) (is_touched at ys) ∙ ap (λ (b : Bool). is_touched at kept || b) (sym (touched_append at xs ys)) where
@@ -201,15 +201,15 @@ around_touched at xs kept ys =
       swap false c y = refl
 
 -- nothing is put by either of two lists
-neither_bytes : (at : Place) (ps qs : List Put) → is_touched at (ps ++ qs) ≡ false → (bytes_at at ps ≡ []) × (bytes_at at qs ≡ [])
+neither_bytes : (at : SinkTarget) (ps qs : List Put) → is_touched at (ps ++ qs) ≡ false → (bytes_at at ps ≡ []) × (bytes_at at qs ≡ [])
 neither_bytes at ps qs none = go (is_touched at ps) (is_touched at qs) refl refl (sym (touched_append at ps qs) ∙ none) where
   go : (a b : Bool) → is_touched at ps ≡ a → is_touched at qs ≡ b → (a || b) ≡ false → (bytes_at at ps ≡ []) × (bytes_at at qs ≡ [])
   go true b x y e = absurd (cc)
   go false true x y e = absurd (cc)
   go false false x y e = (untouched_bytes at ps x, untouched_bytes at qs y)
 
--- what is whole already, at places of its own, in the middle of two lists that are completed
-module _ (at : Place) (kept xs xs' ys zs zs' : List Put) (s : Splits at (xs ++ xs') ys (zs ++ zs')) (apart : is_touched at kept ≡ true → is_touched at (zs ++ zs') ≡ true → ⊥) where
+-- what is whole already, at targets of its own, in the middle of two lists that are completed
+module _ (at : SinkTarget) (kept xs xs' ys zs zs' : List Put) (s : Splits at (xs ++ xs') ys (zs ++ zs')) (apart : is_touched at kept ≡ true → is_touched at (zs ++ zs') ≡ true → ⊥) where
   not_touched : (b : Bool) → is_touched at (zs ++ zs') ≡ b → is_touched at kept ≡ true → is_touched at (zs ++ zs') ≡ false
   not_touched true e here = absurd (apart here e)
   not_touched false e here = e
@@ -246,7 +246,7 @@ module _ (at : Place) (kept xs xs' ys zs zs' : List Put) (s : Splits at (xs ++ x
   }
 
 -- what grew and what is put at the end are the pieces of a run
-module _ (at : Place) (load : Bool) (w : World) (own : AreOwn (names_in w)) where
+module _ (at : SinkTarget) (load : Bool) (w : World) (own : AreOwn (names_in w)) where
   abbrev names : List HostNames
   names = names_in w
 
@@ -263,17 +263,17 @@ module _ (at : Place) (load : Bool) (w : World) (own : AreOwn (names_in w)) wher
   hosts = whole_hosts at w.hosts own
 
   -- a file isn't on the console
-  in_no_file : (name : List ℕ) → at ≡ place.File name → is_touched at others ≡ true → ⊥
+  in_no_file : (name : List ℕ) → at ≡ target.File name → is_touched at others ≡ true → ⊥
   in_no_file name is e =
-      let none : is_touched at others ≡ false = subst (λ (p : Place). is_touched p others ≡ false) (sym is) (neither _ (unmet w) (summary load w) (all_in_no_file _ w.hosts) (summary_in_no_file _ load w)) in
+      let none : is_touched at others ≡ false = subst (λ (p : SinkTarget). is_touched p others ≡ false) (sym is) (neither _ (unmet w) (summary load w) (all_in_no_file _ w.hosts) (summary_in_no_file _ load w)) in
       let e2 : true ≡ false = sym e ∙ none in
       cc
 
   file_of : is_touched at (flat_map host_files w.hosts) ≡ true → (name : List ℕ) × (to : ℕ) × IsFileOf name 0 to at
   file_of here = some_file at rest.host_rest (file_rest at) names states own (hosts.second ∙ here)
 
-  log_or : {P : Type 0} (b c : Bool) → is_place (place.File log_name) at ≡ b → is_touched at others ≡ c → (b || c) ≡ true → (at ≡ place.File log_name → P) → (is_touched at others ≡ true → P) → P
-  log_or true c e f t first second = first (place_of_file log_name at e)
+  log_or : {P : Type 0} (b c : Bool) → is_target (target.File log_name) at ≡ b → is_touched at others ≡ c → (b || c) ≡ true → (at ≡ target.File log_name → P) → (is_touched at others ≡ true → P) → P
+  log_or true c e f t first second = first (target_of_file log_name at e)
   log_or false true e f t first second = second f
   log_or false false e f t first second = absurd (cc)
 
@@ -282,13 +282,13 @@ module _ (at : Place) (load : Bool) (w : World) (own : AreOwn (names_in w)) wher
       hosts (log_and_rest at (flat_map log_line (named_log w)) others)
       (λ here log.
       let file = file_of here in
-      log_or (is_place (place.File log_name) at) (is_touched at others) refl refl log (no_log at file) (in_no_file _ file.2.named.is))
+      log_or (is_target (target.File log_name) at) (is_touched at others) refl refl log (no_log at file) (in_no_file _ file.2.named.is))
 
   capture_apart : is_touched at (captures_in w) ≡ true → is_touched at (flat_map host_files w.hosts ++ (log_file w ∷ others)) ≡ true → ⊥
   capture_apart here other =
       let capture = some_capture at head 0 names (lines_of w.log) here in
       in_either at (flat_map host_files w.hosts) (log_file w ∷ others) other (λ file. no_file_capture at capture (file_of file))
-      (λ log. log_or (is_place (place.File log_name) at) (is_touched at others) refl refl log (no_log_capture at capture) (in_no_file _ capture.1.is))
+      (λ log. log_or (is_target (target.File log_name) at) (is_touched at others) refl refl log (no_log_capture at capture) (in_no_file _ capture.1.is))
 
   pub whole_run : Completes at (captures_in w) (grown_in w) (rest_in load w) (run_pieces load w)
   whole_run = subst (λ (put : Put). Completes at (captures_in w) (hosts_grown names written ++ (captures_in w ++ (put ∷ []))) (rest_in load w) (run_pieces load w)) (sym (log_of_world w))

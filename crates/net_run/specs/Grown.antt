@@ -3,7 +3,7 @@ use Rattle.std.specs.Prelude.{◌≡◌, List, map, Option, Some, All, true}
 use Rattle.std.specs.List.{IsDistinct}
 use Rattle.std.specs.Str.{bytes_eq}
 use Rattle.run_outside.specs.Sink.{Content}
-use Rattle.run_outside.specs.declared.sink.Place.{Place}
+use Rattle.run_outside.specs.declared.sink.SinkTarget.{SinkTarget}
 use Rattle.run_files.specs.Files.{Put}
 use Rattle.pcap_text.specs.Writing.{head}
 use Rattle.run_files.specs.Grown.{grown_behind}
@@ -13,7 +13,7 @@ use Rattle.host_state.specs.Gains.{names_in}
 use Rattle.host_link.specs.Logs.{lines_of}
 use Rattle.net_run.specs.Heads.{all_heads}
 use Rattle.net_run.specs.Pieces.{with_pieces}
-use Rattle.net_run.specs.Places.{bytes_at, is_touched}
+use Rattle.net_run.specs.Targets.{bytes_at, is_touched}
 use Rattle.net_run.specs.World.{World}
 
 -- ---- what stands when a run has come to a world
@@ -22,11 +22,11 @@ use Rattle.net_run.specs.World.{World}
 abbrev pub grown_in : World → List Put
 grown_in w = grown_behind head (names_in w) (map (λ (h : HostRecord). h.written) w.hosts) (lines_of w.log)
 
--- what was put is at these places, and at each of them it is all of this; the captures are there
+-- what was put is at these targets, and at each of them it is all of this; the captures are there
 pub record IsGrown (w : World) (puts : List Put) : Type 0 where
-  pub places : (at : Place) → is_touched at puts ≡ true → is_touched at (grown_in w) ≡ true
-  pub bytes : (at : Place) → bytes_at at puts ≡ bytes_at at (grown_in w)
-  pub captures : (at : Place) → is_touched at (all_heads (names_in w)) ≡ true → is_touched at puts ≡ true
+  pub targets : (at : SinkTarget) → is_touched at puts ≡ true → is_touched at (grown_in w) ≡ true
+  pub bytes : (at : SinkTarget) → bytes_at at puts ≡ bytes_at at (grown_in w)
+  pub captures : (at : SinkTarget) → is_touched at (all_heads (names_in w)) ≡ true → is_touched at puts ≡ true
 
 -- ---- hosts whose processes have files of their own
 

@@ -1,7 +1,7 @@
 pub mod World
 pub mod Pieces
 pub mod Shown
-pub mod Places
+pub mod Targets
 pub mod Heads
 pub mod Grown
 pub mod Rest

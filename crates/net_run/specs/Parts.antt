@@ -14,7 +14,7 @@ abbrev pub IsFrontOf : Option (List ℕ) → Option (List ℕ) → Type 0
 IsFrontOf None whole = Unit {0}
 IsFrontOf (Some bytes) whole = (rest : List ℕ) × (whole ≡ Some (bytes ++ rest))
 
--- each place holds what it held and a front of what the whole adds there. Directory and files are either as they were,
+-- each target holds what it held and a front of what the whole adds there. Directory and files are either as they were,
 -- or the directory was begun and each of its files is one of the whole's
 pub record IsPart (old new whole : Content) : Type 0 where
   pub out : IsBetween old.out new.out whole.out
@@ -27,7 +27,7 @@ pub record IsPrefix (xs ys : List ℕ) : Type 0 where
   pub rest : List ℕ
   pub whole : ys ≡ xs ++ rest
 
--- each place has what it had, and perhaps more
+-- each target has what it had, and perhaps more
 pub record Grows (old new : Content) : Type 0 where
   pub there : new.there ≡ old.there
   pub out : IsPrefix old.out new.out

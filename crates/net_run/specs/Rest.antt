@@ -1,6 +1,6 @@
 -- What is put when a run is over and its files have grown: the final states, the unmet expectations and the summary.
 use Rattle.std.specs.Prelude.{◌≡◌, ℕ, ◌+◌, List, ◌∷◌, ◌++◌, length, slice_get, Option, Some, None, unwrap_or, Bool, true, false, []}
-use Rattle.run_outside.specs.declared.sink.Place.TheVariants as place
+use Rattle.run_outside.specs.declared.sink.SinkTarget.TheVariants as target
 use Rattle.sim_base.specs.declared.state.State.{State}
 use Rattle.sim_base.specs.declared.state.State.TheVariants.{NotStarted}
 use Rattle.host_state.specs.HostRecord.{HostRecord, process_state}
@@ -41,11 +41,11 @@ unmet_of_hosts hosts states = by_host unmet_of_host hosts states
 
 abbrev pub summary_rest : Option Summary → List Put
 summary_rest None = []
-summary_rest (Some s) = (place.Out, summary_line s) ∷ []
+summary_rest (Some s) = (target.Out, summary_line s) ∷ []
 
 -- behind the files of processes: the packet log, so that it is there, the unmet expectations and the summary
 abbrev pub ending : List HostNames → List (List State) → Option Summary → List Put
-ending hosts states summary = (place.File log_name, []) ∷ (unmet_of_hosts hosts states ++ summary_rest summary)
+ending hosts states summary = (target.File log_name, []) ∷ (unmet_of_hosts hosts states ++ summary_rest summary)
 
 abbrev pub all_rest : List HostNames → List (List State) → Option Summary → List Put
 all_rest hosts states summary = hosts_rest hosts states ++ ending hosts states summary

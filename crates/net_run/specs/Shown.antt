@@ -1,7 +1,7 @@
 -- What is shown of the result of a run.
 use Rattle.std.specs.Prelude.{ℕ, ◌+◌, List, [], ◌∷◌, ◌++◌, length, map, flat_map, slice_get, Option, Some, None, Bool, true, false, if◌then◌else◌, ◌==◌}
 use Rattle.sim_base.specs.Signal.{signal_number}
-use Rattle.run_outside.specs.declared.sink.Place.TheVariants as place
+use Rattle.run_outside.specs.declared.sink.SinkTarget.TheVariants as target
 use Rattle.sim_base.specs.declared.state.State.{State}
 use Rattle.sim_base.specs.declared.state.State.TheVariants.{NotStarted, Running, Exited, Signaled}
 use Rattle.host_state.specs.HostRecord.{HostRecord, process_state}
@@ -28,9 +28,9 @@ use Rattle.net_run.specs.World.{World}
 -- the three files of a process, with these bytes
 abbrev pub files_named : List ℕ → List ℕ → ℕ → List ℕ → List ℕ → List ℕ → List Put
 files_named host program pid stdout stderr exit =
-    (place.File (file_name host program pid kind.Stdout), stdout)
-    ∷ (place.File (file_name host program pid kind.Stderr), stderr)
-    ∷ (place.File (file_name host program pid kind.Exit), exit)
+    (target.File (file_name host program pid kind.Stdout), stdout)
+    ∷ (target.File (file_name host program pid kind.Stderr), stderr)
+    ∷ (target.File (file_name host program pid kind.Exit), exit)
     ∷ []
 
 -- the files of process p of a host: what it wrote to descriptors 1 and 2, and its final state
@@ -60,7 +60,7 @@ abbrev pub named_log : World → List LogLine
 named_log w = map (named w.hosts) (lines_of w.log)
 
 abbrev pub log_file : World → Put
-log_file w = (place.File log_name, flat_map log_line (named_log w))
+log_file w = (target.File log_name, flat_map log_line (named_log w))
 
 -- ---- captures
 
@@ -81,7 +81,7 @@ meets expected state = false
 -- the line of a process on the error stream, if its final state is another one
 abbrev pub unmet_by : List ℕ → List ℕ → ℕ → State → State → List Put
 unmet_by host program pid expected state =
-    if meets expected state then [] else (place.Err, unmet_line (process_text host program pid) (state_text state) (state_text expected)) ∷ []
+    if meets expected state then [] else (target.Err, unmet_line (process_text host program pid) (state_text state) (state_text expected)) ∷ []
 
 abbrev pub process_unmet : HostRecord → ℕ → ProcessRow → List Put
 process_unmet h p row = unmet_by h.row.name (program_of row.path) (first_id + p) (expected_state row.expected) (process_state p h)
@@ -101,7 +101,7 @@ unmet w = flat_map host_unmet w.hosts
 
 -- for a self-load, what was sent, lost and received
 abbrev pub summary_puts : Bool → Summary → List Put
-summary_puts true s = (place.Out, summary_line s) ∷ []
+summary_puts true s = (target.Out, summary_line s) ∷ []
 summary_puts false s = []
 
 abbrev pub summary : Bool → World → List Put
@@ -113,7 +113,7 @@ run_pieces load w = flat_map host_files w.hosts ++ (captures_in w ++ (log_file w
 
 -- a line on the error stream for each key without effect
 abbrev pub note_puts : List (List ℕ) → List Put
-note_puts notes = map (λ (path : List ℕ). let p : Put = (place.Err, note_line path) in p) notes
+note_puts notes = map (λ (path : List ℕ). let p : Put = (target.Err, note_line path) in p) notes
 
 -- and behind all else the lines of its connections, where they are asked for
 abbrev pub all_pieces : Bool → Bool → World → List Put

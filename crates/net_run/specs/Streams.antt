@@ -1,6 +1,6 @@
 -- What is told of connections when a run is over: the line of each direction.
 use Rattle.std.specs.Prelude.{ℕ, List, [], ◌∷◌, slice_get, flat_map, Option, Some, None, Bool, true, false}
-use Rattle.run_outside.specs.declared.sink.Place.TheVariants as place
+use Rattle.run_outside.specs.declared.sink.SinkTarget.TheVariants as target
 use Rattle.out_text.specs.Streams.{stream_line}
 use Rattle.out_text.specs.declared.streams.Stream.{Stream}
 use Rattle.run_files.specs.Files.{Put}
@@ -21,7 +21,7 @@ abbrev pub told_lines : List HostNames → List Stream → List ℕ
 told_lines hosts streams = flat_map (told_line hosts) streams
 
 abbrev pub told_puts : List HostNames → List Stream → List Put
-told_puts hosts streams = (place.Out, told_lines hosts streams) ∷ []
+told_puts hosts streams = (target.Out, told_lines hosts streams) ∷ []
 
 -- those of a world, where they are asked for
 abbrev pub stream_puts : Bool → World → List Put

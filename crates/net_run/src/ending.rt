@@ -15,7 +15,7 @@ use crate::process_pieces::{push_line, push_named};
 use base_texts::Text;
 use out_text::Summary;
 use run_files::{HostListing, Listing, Piece, ProcessListing, bytes_of, log_piece, numbers};
-use run_outside::{Place, Sink, WriteError};
+use run_outside::{Sink, SinkTarget, WriteError};
 use sim_base::{Bytes, NoMemory, State};
 use std::alloc::Global;
 
@@ -171,7 +171,7 @@ fn push_summary(
     let mut line = Text::new(alloc);
     out_text::summary_line(alloc, &mut line, &summary)?;
     pieces.push(Piece {
-        place: Place::Out,
+        target: SinkTarget::Out,
         bytes: bytes_of(line),
     })?;
     Ok(())

@@ -2,7 +2,7 @@
 
 ghost use Rattle.std.specs.Prelude.{◌≡◌, ◌∷◌, ◌++◌, [], IfOk, OnOk, OnErr, map, option_map};
 ghost use Rattle.run_outside.specs.Tally.{CountsWrites};
-ghost use Rattle.run_outside.specs.declared.sink.Place.TheVariants as place;
+ghost use Rattle.run_outside.specs.declared.sink.SinkTarget.TheVariants as target;
 ghost use Rattle.out_text.specs.Files.{capture_name};
 ghost use Rattle.pcap_text.specs.Writing.{head};
 ghost use Rattle.run_files.specs.Files.{put_of};
@@ -33,7 +33,7 @@ fn push_capture(
     loopback: bool,
     bytes: Bytes,
 ) -> Result<(), NoMemory>
-    ensures { OnOk result (map put_of pieces.new.items ≡ map put_of pieces.old.items ++ (place.File (capture_name host.now loopback), bytes) ∷ []) }
+    ensures { OnOk result (map put_of pieces.new.items ≡ map put_of pieces.old.items ++ (target.File (capture_name host.now loopback), bytes) ∷ []) }
 {
     pieces.push(capture_piece(alloc, host, loopback, bytes)?)?;
     Ok(())
@@ -47,7 +47,7 @@ fn push_head(
     loopback: bool,
     size: u32,
 ) -> Result<(), NoMemory>
-    ensures { OnOk result (map put_of pieces.new.items ≡ map put_of pieces.old.items ++ (place.File (capture_name host.now loopback), head size) ∷ []) }
+    ensures { OnOk result (map put_of pieces.new.items ≡ map put_of pieces.old.items ++ (target.File (capture_name host.now loopback), head size) ∷ []) }
 {
     let bytes = head_bytes(alloc, size)?;
     push_capture(alloc, pieces, host, loopback, bytes)?;

@@ -20,8 +20,9 @@ ghost use Rattle.net_run.specs.Shown.{run_pieces, status_by, status_of};
 ghost use Rattle.net_run.specs.World.{World, opening_world};
 
 /// A run begins with the heads of captures. What a round gained, put behind what stands, is what
-/// stands then. At each moment each place holds a front of what any later world shows; and with the
-/// rest, put when the run is over, it is all that its world shows, and the status is that world's.
+/// stands then. At each moment each target holds a front of what any later world shows; and with
+/// the rest, put when the run is over, it is all that its world shows, and the status is that
+/// world's.
 pub fn runs_grow()
     ensures begins { (rows : List Row) (begun : Content) → HaveOwnFiles (names_in (opening_world rows))
         → IsUnderway (names_in (opening_world rows)) begun (Some (with_pieces (all_heads (names_in (opening_world rows))) begun)) (opening_world rows) }
@@ -34,7 +35,7 @@ pub fn runs_grow()
     ensures status { (w : World) (states : List (List State)) → AreTold w states → status_by (unmet_of_hosts (names_in w) states) ≡ status_of w }
 {}
 
-/// Where some of the pieces were put, each place holds what it held and a front of what all of them add there.
+/// Where some of the pieces were put, each target holds what it held and a front of what all of them add there.
 pub fn parts_are_between()
     ensures { (puts : List Put) (old : Content) (new : Option Content) → PutsFront puts (Some old) new → Between old new (with_pieces puts old) }
 {}

@@ -9,7 +9,7 @@ ghost use Rattle.net_run.specs.Shown.{note_puts};
 use crate::output::put_pieces;
 use base_texts::Text;
 use run_files::Piece;
-use run_outside::{Place, Sink, WriteError};
+use run_outside::{Sink, SinkTarget, WriteError};
 use sim_base::{Bytes, NoMemory};
 use std::alloc::Global;
 
@@ -20,7 +20,7 @@ fn push_note(alloc: Global, pieces: &mut Vec<Piece>, note: &Text) -> Result<(), 
     let mut line = Text::new(alloc);
     out_text::note_line(alloc, &mut line, note.as_str())?;
     pieces.push(Piece {
-        place: Place::Err,
+        target: SinkTarget::Err,
         bytes: Bytes::from(line.into_string().into_bytes()),
     })?;
     Ok(())

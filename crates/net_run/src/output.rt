@@ -1,4 +1,4 @@
-//! Bytes to their places.
+//! Bytes to their targets.
 
 ghost use Rattle.std.specs.Prelude.{◌≡◌, map, option_map, OnOk, OnErr};
 ghost use Rattle.run_outside.specs.Tally.{CountsWrites};
@@ -17,7 +17,7 @@ pub fn put_pieces<K: Sink>(sink: &mut K, pieces: &[Piece]) -> Result<(), WriteEr
     ensures count { CountsWrites result (K.tally sink.old) (K.tally sink.new) }
 {
     for piece in pieces {
-        put_all(sink, &piece.place, piece.bytes.as_slice())?;
+        put_all(sink, &piece.target, piece.bytes.as_slice())?;
     }
     Ok(())
 }

@@ -1,7 +1,7 @@
 //! The pieces of one process.
 
 ghost use Rattle.std.specs.Prelude.{◌≡◌, ◌++◌, ◌∷◌, [], ◌+◌, ◌<◌, ◌^◌, List, IfOk, OnOk, map};
-ghost use Rattle.run_outside.specs.declared.sink.Place.TheVariants as place;
+ghost use Rattle.run_outside.specs.declared.sink.SinkTarget.TheVariants as target;
 ghost use Rattle.out_text.specs.Files.{file_name, state_line};
 ghost use Rattle.run_files.specs.Files.{put_of};
 ghost use Rattle.net_run.specs.Shown as spec;
@@ -9,7 +9,7 @@ ghost use Rattle.net_run.specs.Shown as spec;
 use base_texts::Text;
 use out_text::{FaultText, FileKind};
 use run_files::{Piece, bytes_of, file_piece};
-use run_outside::Place;
+use run_outside::SinkTarget;
 use sim_base::{Bytes, NoMemory, State};
 use std::alloc::Global;
 
@@ -36,7 +36,7 @@ fn push_file(
     kind: FileKind,
     bytes: Bytes,
 ) -> Result<(), NoMemory>
-    ensures { OnOk result (map put_of pieces.new.items ≡ map put_of pieces.old.items ++ (place.File (file_name host.now program.now pid kind), bytes) ∷ []) }
+    ensures { OnOk result (map put_of pieces.new.items ≡ map put_of pieces.old.items ++ (target.File (file_name host.now program.now pid kind), bytes) ∷ []) }
 {
     pieces.push(file_piece(alloc, host, program, pid, kind, bytes)?)?;
     Ok(())
@@ -85,7 +85,7 @@ pub(crate) fn push_line(
     };
     out_text::fault_line(alloc, &mut line, &unmet)?;
     pieces.push(Piece {
-        place: Place::Err,
+        target: SinkTarget::Err,
         bytes: bytes_of(line),
     })?;
     Ok(())

@@ -9,7 +9,7 @@ ghost use Rattle.net_run.specs.Streams as spec;
 use base_texts::Text;
 use out_text::{Stream, stream_line};
 use run_files::{HostListing, Listing};
-use run_outside::{Place, Sink, WriteError, put_all};
+use run_outside::{Sink, SinkTarget, WriteError, put_all};
 use sim_base::NoMemory;
 use std::alloc::Global;
 
@@ -47,7 +47,7 @@ pub fn put_streams<K: Sink>(
     ensures count { CountsWrites result (K.tally sink.old) (K.tally sink.new) }
 {
     match lines_of(alloc, listing.hosts.as_slice(), streams) {
-        Ok(lines) => put_all(sink, &Place::Out, lines.as_bytes()),
+        Ok(lines) => put_all(sink, &SinkTarget::Out, lines.as_bytes()),
         Err(NoMemory) => Err(WriteError::NoMemory),
     }
 }

@@ -2,7 +2,7 @@
 
 use base_texts::Name;
 use memory_outside::{MemSink, MemSource};
-use run_outside::{Place, ReadError, Sink, Source, WriteError, put_all, read_all};
+use run_outside::{ReadError, Sink, SinkTarget, Source, WriteError, put_all, read_all};
 use std::alloc::Global;
 use std::test::Fail;
 
@@ -51,7 +51,7 @@ fn a_sink_keeps_what_it_is_given(rt: HostRuntime) -> Result<(), Fail> {
     assert_eq!(rt; begun, [Ok(true), Ok(false)]);
     // the third put fails, and adds nothing
     sink.fail_at(5)?;
-    let file = Place::File(Name::from_str(rt.alloc(), "f")?);
+    let file = SinkTarget::File(Name::from_str(rt.alloc(), "f")?);
     let put = [
         put_all(&mut sink, &file, b""),
         put_all(&mut sink, &file, b"one"),
@@ -67,10 +67,10 @@ fn a_sink_keeps_what_it_is_given(rt: HostRuntime) -> Result<(), Fail> {
 #[test]
 fn a_sink_takes_short_pieces(rt: HostRuntime) {
     let mut sink = MemSink::new(rt.alloc());
-    let errors = put_all(&mut sink, &Place::Err, b"err");
+    let errors = put_all(&mut sink, &SinkTarget::Err, b"err");
     sink.short(2);
-    let piece = sink.put(&Place::Out, b"out");
-    let rest = put_all(&mut sink, &Place::Out, b"t of it");
+    let piece = sink.put(&SinkTarget::Out, b"out");
+    let rest = put_all(&mut sink, &SinkTarget::Out, b"t of it");
     assert_eq!(rt; (errors, piece, rest), (Ok(()), Ok(2), Ok(())));
     assert_eq!(rt; sink.err(), b"err".as_slice());
     assert_eq!(rt; sink.out(), b"out of it".as_slice());

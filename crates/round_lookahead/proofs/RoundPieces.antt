@@ -1,4 +1,4 @@
--- What a round gained, as places and bytes.
+-- What a round gained, as targets and bytes.
 use Rattle.std.proofs.Common.{◌≡◌, ℕ, List, length, map, sym, ap, subst, ◌∙◌}
 use Rattle.std.proofs.lemmas.List.{length-map}
 use Rattle.file_calls.specs.declared.task.Output.{Output}

@@ -26,7 +26,7 @@ use Rattle.round_lookahead.specs.Took.{took_in}
 use Rattle.round_lookahead.specs.Works.{HostJob}
 use Rattle.round_lookahead.specs.WorldStands.{HostWorld, WorldStands, nanos_of}
 
--- the places and bytes that outputs and log gained: what each process wrote, and the text of the lines, which are of packets whose numbers fit
+-- the targets and bytes that outputs and log gained: what each process wrote, and the text of the lines, which are of packets whose numbers fit
 -- their types
 pub record ArePieces (w v : HostWorld) (files : List Piece) : Type 0 where
   pub outputs : List (List Output)
@@ -61,7 +61,7 @@ pub record HasTurns (old new : World) (workers : ℕ) (w v : HostWorld) (took : 
   pub stands : WorldStands new v
   pub taken : IsTaken old.net (window_end (nanos_of old.lookahead) old.net.stop.nanos least) workers w v took
 
--- a round, and what was gained as places and bytes
+-- a round, and what was gained as targets and bytes
 pub record HasRound (old new : World) (workers : ℕ) (w v : HostWorld) (p : Pieces) : Type 0 where
   pub turns : HasTurns old new workers w v (took_in p.took)
   pub files : ArePieces w v p.files.items

@@ -1,7 +1,7 @@
 -- The two captures of each host that has them: the bytes that lines of the packet log bring into them.
 use Rattle.std.specs.Prelude.{ℕ, ◌+◌, List, ◌∷◌, ◌++◌, Option, Some, None, true, false, []}
 use Rattle.sim_base.specs.declared.address.Ip.{Ip}
-use Rattle.run_outside.specs.declared.sink.Place.TheVariants as place
+use Rattle.run_outside.specs.declared.sink.SinkTarget.TheVariants as target
 use Rattle.out_text.specs.Files.{capture_name}
 use Rattle.run_files.specs.Captures.{eth0_of, lo_of, records_of}
 use Rattle.run_files.specs.Files.{Put}
@@ -24,7 +24,7 @@ captured_from number (host ∷ hosts) lines = captured number host lines ∷ cap
 
 -- the two files of a host, with these bytes
 abbrev pub capture_files : List ℕ → List ℕ → List ℕ → List Put
-capture_files host eth0 lo = (place.File (capture_name host false), eth0) ∷ (place.File (capture_name host true), lo) ∷ []
+capture_files host eth0 lo = (target.File (capture_name host false), eth0) ∷ (target.File (capture_name host true), lo) ∷ []
 
 -- of a host with a capture size: each with its records, and in front of them what comes there by the capture size
 abbrev pub files_by : (ℕ → List ℕ) → List ℕ → Captured → Option ℕ → List Put

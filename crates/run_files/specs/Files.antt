@@ -1,7 +1,7 @@
 -- The files of a run: their names, and what is put there.
 use Rattle.std.specs.Prelude.{ℕ, List, [], Option, Some, None, ◌&&◌, if◌then◌else◌, flat_map, codes, ◌==◌}
 use Rattle.std.specs.Path.{rsplit_once}
-use Rattle.run_outside.specs.declared.sink.Place.{Place}
+use Rattle.run_outside.specs.declared.sink.SinkTarget.{SinkTarget}
 use Rattle.sim_base.specs.declared.state.State.{State}
 use Rattle.sim_base.specs.declared.state.State.TheVariants.{Running, Exited, Signaled}
 use Rattle.sim_base.specs.Ascii.{slash}
@@ -10,12 +10,12 @@ use Rattle.run_files.specs.declared.piece.Piece.{Piece}
 use Rattle.host_rows.specs.declared.row.FinalState.{FinalState}
 use Rattle.host_rows.specs.declared.row.FinalState.TheVariants as final
 
--- a place, and the bytes that are put there
+-- a target, and the bytes that are put there
 abbrev pub Put : Type 0
-Put = Place × List ℕ
+Put = SinkTarget × List ℕ
 
 abbrev pub put_of : Piece → Put
-put_of piece = (piece.place, piece.bytes)
+put_of piece = (piece.target, piece.bytes)
 
 abbrev pub last_part : List ℕ → Option (List ℕ × List ℕ) → List ℕ
 last_part path None = path

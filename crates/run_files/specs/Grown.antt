@@ -1,7 +1,7 @@
 -- What outputs and lines put into the files that grow while a run goes on.
 use Rattle.std.specs.Prelude.{◌≡◌, ℕ, ◌+◌, List, [], ◌∷◌, ◌++◌, map, flat_map, slice_get, Option, Some, None, true, Bool, false}
 use Rattle.std.specs.List.{filter}
-use Rattle.run_outside.specs.declared.sink.Place.TheVariants as place
+use Rattle.run_outside.specs.declared.sink.SinkTarget.TheVariants as target
 use Rattle.file_calls.specs.declared.task.Output.{Output}
 use Rattle.file_calls.specs.Numbers.{stdout_fileno, stderr_fileno}
 use Rattle.run_files.specs.Captured.{all_captures, no_head}
@@ -18,8 +18,8 @@ use Rattle.out_text.specs.declared.log.LogLine.{LogLine}
 -- what process p of a host wrote to its standard output and error, each in its file
 abbrev pub process_grown : List ℕ → List Output → ℕ → ProcessListing → List Put
 process_grown host outputs p process =
-    (place.File (file_name host process.program (first_id + p) kind.Stdout), written_to p stdout_fileno outputs)
-    ∷ (place.File (file_name host process.program (first_id + p) kind.Stderr), written_to p stderr_fileno outputs)
+    (target.File (file_name host process.program (first_id + p) kind.Stdout), written_to p stdout_fileno outputs)
+    ∷ (target.File (file_name host process.program (first_id + p) kind.Stderr), written_to p stderr_fileno outputs)
     ∷ []
 
 abbrev pub host_grown : HostNames → List Output → List Put
@@ -38,7 +38,7 @@ told_line hosts l = record { time = l.time; host = listed_name (slice_get hosts 
 
 -- the text of lines, in the packet log
 abbrev pub log_grown : List HostNames → List Line → Put
-log_grown hosts lines = (place.File log_name, flat_map log_line (map (told_line hosts) lines))
+log_grown hosts lines = (target.File log_name, flat_map log_line (map (told_line hosts) lines))
 
 -- what the hosts wrote, their captures with some bytes in front of the records, and the packet log
 abbrev pub grown_behind : (ℕ → List ℕ) → List HostNames → List (List Output) → List Line → List Put

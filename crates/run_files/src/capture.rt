@@ -2,7 +2,7 @@
 
 ghost use Rattle.std.specs.Prelude.{◌≡◌, ◌++◌, ◌∷◌, [], IfOk, List, OnOk, map};
 ghost use Rattle.std.specs.List.{list_any};
-ghost use Rattle.run_outside.specs.declared.sink.Place.TheVariants as place;
+ghost use Rattle.run_outside.specs.declared.sink.SinkTarget.TheVariants as target;
 ghost use Rattle.out_text.specs.Files.{capture_name};
 ghost use Rattle.run_files.specs.Captured as spec;
 ghost use Rattle.run_files.specs.inside.Captured as inside;
@@ -159,7 +159,7 @@ fn push_capture(
     loopback: bool,
     bytes: Bytes,
 ) -> Result<(), NoMemory>
-    ensures { OnOk result (map put_of pieces.new.items ≡ map put_of pieces.old.items ++ with_bytes ((place.File (capture_name host.now loopback), bytes) ∷ [])) }
+    ensures { OnOk result (map put_of pieces.new.items ≡ map put_of pieces.old.items ++ with_bytes ((target.File (capture_name host.now loopback), bytes) ∷ [])) }
 {
     if bytes.is_empty() {
         return Ok(());

@@ -1,7 +1,7 @@
 //! What a round gained, as bytes for the files that grow: what processes wrote, the captures of hosts, and the packet log.
 
 ghost use Rattle.std.specs.Prelude.{◌≡◌, ◌++◌, ◌∷◌, [], IfOk, OnOk, map, flat_map, length, slice_get};
-ghost use Rattle.run_outside.specs.declared.sink.Place.TheVariants as place;
+ghost use Rattle.run_outside.specs.declared.sink.SinkTarget.TheVariants as target;
 ghost use Rattle.out_text.specs.Files.{file_name};
 ghost use Rattle.out_text.specs.Log.{log_line};
 ghost use Rattle.run_files.specs.Files.{put_of};
@@ -33,7 +33,7 @@ fn push_bytes(
     kind: FileKind,
     bytes: Bytes,
 ) -> Result<(), NoMemory>
-    ensures { OnOk result (map put_of pieces.new.items ≡ map put_of pieces.old.items ++ spec.with_bytes ((place.File (file_name host.now program.now pid kind), bytes) ∷ [])) }
+    ensures { OnOk result (map put_of pieces.new.items ≡ map put_of pieces.old.items ++ spec.with_bytes ((target.File (file_name host.now program.now pid kind), bytes) ∷ [])) }
 {
     if bytes.is_empty() {
         return Ok(());
@@ -172,7 +172,7 @@ fn push_lines(
     Ok(())
 }
 
-/// The places and bytes that a round gained: what the processes of all hosts wrote, each host's by
+/// The targets and bytes that a round gained: what the processes of all hosts wrote, each host's by
 /// its place, the records of its captures, and the lines of the packet log.
 pub fn round_pieces(
     alloc: Global,

@@ -1,7 +1,7 @@
-//! Bytes, and the places where they are put.
+//! Bytes, and the targets where they are put.
 
 ghost use Rattle.std.specs.Prelude.{◌≡◌, ◌+◌, IfOk};
-ghost use Rattle.run_outside.specs.declared.sink.Place.TheVariants as place;
+ghost use Rattle.run_outside.specs.declared.sink.SinkTarget.TheVariants as target;
 ghost use Rattle.out_text.specs.Files.{file_name, capture_name};
 ghost use Rattle.file_calls.specs.Guest.{first_id};
 ghost use Rattle.run_files.specs.Files as spec;
@@ -11,14 +11,14 @@ use base_texts::{Name, Text};
 use file_calls::{FIRST_ID, Output};
 use host_rows::FinalState;
 use out_text::FileKind;
-use run_outside::Place;
+use run_outside::SinkTarget;
 use sim_base::{Bytes, NoMemory, State};
 use std::alloc::Global;
 
-/// A place, and the bytes that are put there.
+/// A target, and the bytes that are put there.
 #[derive(Drop)]
 pub struct Piece {
-    pub place: Place,
+    pub target: SinkTarget,
     pub bytes: Bytes,
 }
 
@@ -69,12 +69,12 @@ pub fn file_piece(
     kind: FileKind,
     bytes: Bytes,
 ) -> Result<Piece, NoMemory>
-    ensures { IfOk result (λ p. put_of p ≡ (place.File (file_name host.now program.now pid kind), bytes)) }
+    ensures { IfOk result (λ p. put_of p ≡ (target.File (file_name host.now program.now pid kind), bytes)) }
 {
     let mut name = Text::new(alloc);
     out_text::file_name(alloc, &mut name, host, program, pid, kind)?;
     Ok(Piece {
-        place: Place::File(Name::from(name.into_string())),
+        target: SinkTarget::File(Name::from(name.into_string())),
         bytes,
     })
 }
@@ -86,12 +86,12 @@ pub fn capture_piece(
     loopback: bool,
     bytes: Bytes,
 ) -> Result<Piece, NoMemory>
-    ensures { IfOk result (λ p. put_of p ≡ (place.File (capture_name host.now loopback), bytes)) }
+    ensures { IfOk result (λ p. put_of p ≡ (target.File (capture_name host.now loopback), bytes)) }
 {
     let mut name = Text::new(alloc);
     out_text::capture_name(alloc, &mut name, host, loopback)?;
     Ok(Piece {
-        place: Place::File(Name::from(name.into_string())),
+        target: SinkTarget::File(Name::from(name.into_string())),
         bytes,
     })
 }
@@ -105,10 +105,10 @@ pub fn bytes_of(text: Text) -> Bytes
 
 /// The file of the packet log, with a text.
 pub fn log_piece(alloc: Global, text: Text) -> Result<Piece, NoMemory>
-    ensures { IfOk result (λ p. put_of p ≡ (place.File (spec.log_name), text)) }
+    ensures { IfOk result (λ p. put_of p ≡ (target.File (spec.log_name), text)) }
 {
     Ok(Piece {
-        place: Place::File(Name::from_str(alloc, "packets.log")?),
+        target: SinkTarget::File(Name::from_str(alloc, "packets.log")?),
         bytes: bytes_of(text),
     })
 }

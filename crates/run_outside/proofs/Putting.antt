@@ -1,10 +1,10 @@
--- adding pieces to a place, one after another
+-- adding pieces to a target, one after another
 use Rattle.std.proofs.Common.{◌≡◌, ℕ, ◌+◌, ◌≤◌, ◌⊎◌, inl, inr, Bool, true, false, cond, List, [], ◌++◌, length, take, drop, Option, Some, None, option_map, unwrap_or, refl, sym, ap, ◌∙◌, append_assoc, arith, rules, length-drop}
 use Rattle.std.proofs.lemmas.Grind.{common_steps}
 use Rattle.std.proofs.Math.Seq.{take-add}
 use Rattle.std.specs.Str.{bytes_eq}
-use Rattle.run_outside.specs.declared.sink.Place.{Place}
-use Rattle.run_outside.specs.declared.sink.Place.TheVariants as place
+use Rattle.run_outside.specs.declared.sink.SinkTarget.{SinkTarget}
+use Rattle.run_outside.specs.declared.sink.SinkTarget.TheVariants as target
 use Rattle.run_outside.specs.Files.{Held, add_to_file}
 use Rattle.run_outside.specs.Sink.{Content, add}
 
@@ -16,17 +16,17 @@ pub add_to_file_append : (name x y : List ℕ) (files : Held) → add_to_file na
 add_to_file_append name x y files = λ i other. twice (bytes_eq name other) x y (files other) i
 
 -- two pieces, one after the other, are the two as one
-pub add_append : (p : Place) (x y : List ℕ) (c : Content) → add p y (add p x c) ≡ add p (x ++ y) c
-add_append place.Out x y c = ap (λ (out : List ℕ). record c { out = out }) (append_assoc c.out x y)
-add_append place.Err x y c = ap (λ (err : List ℕ). record c { err = err }) (append_assoc c.err x y)
-add_append (place.File name) x y c = ap (λ (files : Held). record c { files = files }) (add_to_file_append name x y c.files)
+pub add_append : (p : SinkTarget) (x y : List ℕ) (c : Content) → add p y (add p x c) ≡ add p (x ++ y) c
+add_append target.Out x y c = ap (λ (out : List ℕ). record c { out = out }) (append_assoc c.out x y)
+add_append target.Err x y c = ap (λ (err : List ℕ). record c { err = err }) (append_assoc c.err x y)
+add_append (target.File name) x y c = ap (λ (files : Held). record c { files = files }) (add_to_file_append name x y c.files)
 
-pub add_append_told : (p : Place) (x y : List ℕ) (o : Option Content) → option_map (add p y) (option_map (add p x) o) ≡ option_map (add p (x ++ y)) o
+pub add_append_told : (p : SinkTarget) (x y : List ℕ) (o : Option Content) → option_map (add p y) (option_map (add p x) o) ≡ option_map (add p (x ++ y)) o
 add_append_told p x y None = refl
 add_append_told p x y (Some c) = ap Some (add_append p x y c)
 
 -- the front of the piece was put, and the rest is left
-pub record HasPut (p : Place) (piece rest : List ℕ) (old now : Option Content) : Type 0 where
+pub record HasPut (p : SinkTarget) (piece rest : List ℕ) (old now : Option Content) : Type 0 where
   pub count : ℕ
   pub within : count ≤ length piece
   pub left : rest ≡ drop count piece
@@ -40,7 +40,7 @@ from_start piece n count z = ap (λ i. take n (drop i piece)) z ∙ ap (λ k. ta
   same : n ≡ count + n
   same = omega arith
 
-front_more : (p : Place) (piece : List ℕ) (count n : ℕ) (old now new : Option Content)
+front_more : (p : SinkTarget) (piece : List ℕ) (count n : ℕ) (old now new : Option Content)
     → ((count ≡ 0) × (now ≡ old)) ⊎ (now ≡ option_map (add p (take count piece)) old)
     → new ≡ option_map (add p (take n (drop count piece))) now
     → new ≡ option_map (add p (take (count + n) piece)) old
@@ -53,7 +53,7 @@ front_more p piece count n old now new (inr h) e =
     ∙ ap (λ xs. option_map (add p xs) old) (sym (take-add count n piece))
 
 -- a piece of the rest was put
-pub HasPut_more : (p : Place) (piece rest : List ℕ) (n : ℕ) (old now new : Option Content) → n ≤ length rest
+pub HasPut_more : (p : SinkTarget) (piece rest : List ℕ) (n : ℕ) (old now new : Option Content) → n ≤ length rest
     → new ≡ option_map (add p (take n rest)) now → HasPut p piece rest old now → HasPut p piece (drop n rest) old new
 HasPut_more p piece rest n old now new within e h = record {
   count = h.count + n;

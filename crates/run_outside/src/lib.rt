@@ -7,6 +7,6 @@ mod source;
 mod tally;
 
 pub use loops::{put_all, read_all};
-pub use sink::{Place, Sink, WriteError};
+pub use sink::{Sink, SinkTarget, WriteError};
 pub use source::{ReadError, Source};
 pub use tally::Tally;

@@ -5,7 +5,7 @@ ghost use Rattle.run_outside.specs.Source.{HasRead, EndsBy, CountsReads};
 ghost use Rattle.run_outside.specs.Sink.{add, AddsFront};
 ghost use Rattle.run_outside.specs.Tally.{CountsWrites};
 
-use crate::sink::{Place, Sink, WriteError};
+use crate::sink::{Sink, SinkTarget, WriteError};
 use crate::source::{ReadError, Source};
 use std::alloc::Global;
 
@@ -53,17 +53,17 @@ pub fn read_all<S: Source>(
     Ok(read)
 }
 
-/// Adds a whole piece to the end of a place, whose file is made where it is not there.
-pub fn put_all<S: Sink>(sink: &mut S, place: &Place, piece: &[u8]) -> Result<(), WriteError>
-    ensures ok { OnOk result (S.content sink.new ≡ option_map (add place.now piece.now) (S.content sink.old)) }
+/// Adds a whole piece to the end of a target, whose file is made where it is not there.
+pub fn put_all<S: Sink>(sink: &mut S, target: &SinkTarget, piece: &[u8]) -> Result<(), WriteError>
+    ensures ok { OnOk result (S.content sink.new ≡ option_map (add target.now piece.now) (S.content sink.old)) }
 
     // After an error nothing was added, or a front of the piece.
-    ensures err { OnErr result (AddsFront place.now piece.now (S.content sink.old) (S.content sink.new)) }
+    ensures err { OnErr result (AddsFront target.now piece.now (S.content sink.old) (S.content sink.new)) }
     ensures count { CountsWrites result (S.tally sink.old) (S.tally sink.new) }
 {
     let mut rest = piece;
     loop {
-        let taken = sink.put(place, rest)?;
+        let taken = sink.put(target, rest)?;
         let (_, after) = rest.split_at(taken);
         rest = after;
         if rest.is_empty() {

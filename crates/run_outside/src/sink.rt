@@ -11,7 +11,7 @@ use std::alloc::{AllocError, AllocFailed};
 
 /// Where bytes are put.
 #[derive(Clone, PartialEq, Eq, Drop)]
-pub enum Place {
+pub enum SinkTarget {
     /// Standard output.
     Out,
     /// Standard error.
@@ -46,13 +46,13 @@ pub trait Sink {
         ensures made { Begins dir.now result (content self.old) (content self.new) }
         ensures count { CountsCall result (tally self.old) (tally self.new) };
 
-    /// Adds the front of a piece to the end of a place, and answers how many bytes these were, at
+    /// Adds the front of a piece to the end of a target, and answers how many bytes these were, at
     /// least one of a piece that is not empty. A file is made where it is not there, by an empty
     /// piece too.
-    fn put(&mut self, place: &Place, piece: &[u8]) -> Result<usize, WriteError>
+    fn put(&mut self, target: &SinkTarget, piece: &[u8]) -> Result<usize, WriteError>
         ensures fits { IfOk result (λ n. n ≤ length piece.now) }
         ensures some { IfOk result (λ n. 0 < length piece.now → 0 < n) }
-        ensures added { IfOk result (λ n. content self.new ≡ option_map (add place.now (take n piece.now)) (content self.old)) }
+        ensures added { IfOk result (λ n. content self.new ≡ option_map (add target.now (take n piece.now)) (content self.old)) }
         ensures err { OnErr result (content self.new ≡ content self.old) }
         ensures count { CountsCall result (tally self.old) (tally self.new) };
 }

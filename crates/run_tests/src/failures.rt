@@ -179,7 +179,7 @@ fn tells_a_directory_that_is_there(rt: HostRuntime) -> Result<(), Fail> {
     Ok(())
 }
 
-/// Each place has a front of what it would hold.
+/// Each target has a front of what it would hold.
 fn is_front(sink: &MemSink) -> bool {
     for (name, content) in FILES {
         if !content.starts_with(text(sink, name)) {

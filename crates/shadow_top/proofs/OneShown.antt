@@ -4,7 +4,7 @@ use Rattle.std.specs.Prelude.{if◌then◌else◌}
 use Rattle.run_outside.specs.Files.{Held}
 use Rattle.sim_base.specs.Packet.{packet_size}
 use Rattle.run_outside.specs.Sink.{Content, add, begun}
-use Rattle.run_outside.specs.declared.sink.Place.TheVariants as place
+use Rattle.run_outside.specs.declared.sink.SinkTarget.TheVariants as target
 use Rattle.sim_base.specs.declared.packet.Packet.{Packet}
 use Rattle.host_state.specs.World.{World, IsResult, opening_world}
 use Rattle.host_link.specs.Net.{Net}
@@ -144,18 +144,18 @@ Same one other status another = (one ≡ other) × (status ≡ another)
 module _ (plans : OnePlan) (datagrams : OneDatagram) (results : OneResult) (i : Input) (old one other : Content) (status another : ℕ) where
   both_refused : IsRefused i old one status → IsRefused i old other another → Same one other status another
   both_refused h k =
-      let same = one_fault plans i h.fault k.fault h.first k.first in (h.line ∙ ap (λ (f : Fault). add place.Err (line_of f) old) same ∙ sym k.line, h.status_is ∙ sym k.status_is)
+      let same = one_fault plans i h.fault k.fault h.first k.first in (h.line ∙ ap (λ (f : Fault). add target.Err (line_of f) old) same ∙ sym k.line, h.status_is ∙ sym k.status_is)
 
   both_configured : IsConfigShown i old one status → IsConfigShown i old other another → Same one other status another
   both_configured h k =
       let same = same_config h.config k.config (one_plan plans i (plan.Shows h.config) (plan.Shows k.config) h.asked k.asked) in
-      (h.text ∙ ap (λ (c : Config). add place.Out (shown c) old) same ∙ sym k.text, h.status_is ∙ sym k.status_is)
+      (h.text ∙ ap (λ (c : Config). add target.Out (shown c) old) same ∙ sym k.text, h.status_is ∙ sym k.status_is)
 
   both_listed : IsCaptureListed i old one status → IsCaptureListed i old other another → Same one other status another
   both_listed h k =
       let same = same_capture h.capture k.capture (one_plan plans i (plan.Lists h.capture) (plan.Lists k.capture) h.asked k.asked) in
       let text = one_text datagrams k.capture.records h.lines k.lines (subst (λ (c : Capture). AreLinesOf c.records h.lines) same h.lines_are) k.lines_are in
-      (h.text ∙ ap (λ (lines : List ℕ). add place.Out lines old) text ∙ sym k.text, h.status_is ∙ sym k.status_is)
+      (h.text ∙ ap (λ (lines : List ℕ). add target.Out lines old) text ∙ sym k.text, h.status_is ∙ sym k.status_is)
 
   both_ran : IsRun i old one status → IsRun i old other another → Same one other status another
   both_ran h k =

@@ -1,14 +1,14 @@
 -- What stands where, when only a part of it was put.
 use Rattle.std.proofs.Common.{◌≡◌, ℕ, ◌≤◌, inl, inr, ⊎_elim, List, [], ◌++◌, length, take, Option, Some, option_map, refl, sym, ap, subst, ◌∙◌, append-nil}
 use Rattle.run_outside.specs.Sink.{Content, add, begun, AddsFront}
-use Rattle.run_outside.specs.declared.sink.Place.TheVariants as place
+use Rattle.run_outside.specs.declared.sink.SinkTarget.TheVariants as target
 use Rattle.net_run.specs.Parts.{IsBetween, IsPart, IsPrefix, Grows, Between}
 use Rattle.run_files.specs.Files.{Put}
 use Rattle.net_run.specs.Pieces.{with_pieces, PutsFront}
 use Rattle.shadow_top.proofs.GrowLemmas.{AreBetween, with_append, prefix_refl, prefix_of_added, Grows-trans, Grows_with_pieces}
 
 module _ (parts : AreBetween) (ps qs : List Put) (c : Content) (new : Option Content) where
-  -- all of the first pieces were put, and a front of those that follow, place by place
+  -- all of the first pieces were put, and a front of those that follow, target by target
   pub between_after : Between (with_pieces ps c) new (with_pieces qs (with_pieces ps c)) → Between c new (with_pieces (ps ++ qs) c)
   between_after b = record {
     now = b.now;
@@ -17,7 +17,7 @@ module _ (parts : AreBetween) (ps qs : List Put) (c : Content) (new : Option Con
     rest = subst (λ (d : Content). Grows b.now d) (sym (with_append ps qs c)) b.rest;
   }
 
-  -- a front of the first pieces was put, place by place
+  -- a front of the first pieces was put, target by target
   pub between_more : Between c new (with_pieces ps c) → Between c new (with_pieces (ps ++ qs) c)
   between_more b = record {
     now = b.now;
@@ -50,13 +50,13 @@ part_same old now whole same out err = record {
 }
 
 -- a front of a line was put
-pub part_line : (old : Content) (line : List ℕ) (new : Option Content) → AddsFront place.Err line (Some old) new
-    → (now : Content) × (new ≡ Some now) × IsPart old now (add place.Err line old)
+pub part_line : (old : Content) (line : List ℕ) (new : Option Content) → AddsFront target.Err line (Some old) new
+    → (now : Content) × (new ≡ Some now) × IsPart old now (add target.Err line old)
 part_line old line new front =
     ⊎_elim
-    (λ (same : new ≡ Some old). (old, same, part_same old old (add place.Err line old) refl (prefix_refl old.out) (record { rest = line; whole = refl })))
-    (λ (some : (n : ℕ) × (n ≤ length line) × (new ≡ option_map (add place.Err (take n line)) (Some old))). (
-      add place.Err (take some.0 line) old,
+    (λ (same : new ≡ Some old). (old, same, part_same old old (add target.Err line old) refl (prefix_refl old.out) (record { rest = line; whole = refl })))
+    (λ (some : (n : ℕ) × (n ≤ length line) × (new ≡ option_map (add target.Err (take n line)) (Some old))). (
+      add target.Err (take some.0 line) old,
       some.2,
       record {
         out = is_between _ _ _ (prefix_refl old.out) (prefix_refl old.out);
@@ -67,13 +67,13 @@ part_line old line new front =
     front
 
 -- and a front of a text on the output
-pub part_text : (old : Content) (text : List ℕ) (new : Option Content) → AddsFront place.Out text (Some old) new
-    → (now : Content) × (new ≡ Some now) × IsPart old now (add place.Out text old)
+pub part_text : (old : Content) (text : List ℕ) (new : Option Content) → AddsFront target.Out text (Some old) new
+    → (now : Content) × (new ≡ Some now) × IsPart old now (add target.Out text old)
 part_text old text new front =
     ⊎_elim
-    (λ (same : new ≡ Some old). (old, same, part_same old old (add place.Out text old) refl (record { rest = text; whole = refl }) (prefix_refl old.err)))
-    (λ (some : (n : ℕ) × (n ≤ length text) × (new ≡ option_map (add place.Out (take n text)) (Some old))). (
-      add place.Out (take some.0 text) old,
+    (λ (same : new ≡ Some old). (old, same, part_same old old (add target.Out text old) refl (record { rest = text; whole = refl }) (prefix_refl old.err)))
+    (λ (some : (n : ℕ) × (n ≤ length text) × (new ≡ option_map (add target.Out (take n text)) (Some old))). (
+      add target.Out (take some.0 text) old,
       some.2,
       record {
         out = is_between _ _ _ (record { rest = take some.0 text; whole = refl }) (prefix_of_added old.out some.0 text);

@@ -4,7 +4,7 @@ use Rattle.run_outside.specs.Faults.{Rose}
 use Rattle.run_outside.specs.Files.{Held}
 use Rattle.run_outside.specs.Sink.{Content, add, begun, AddsFront}
 use Rattle.run_outside.specs.Tally.{EndsByError, StopsAtError, CountsWrites, one_more}
-use Rattle.run_outside.specs.declared.sink.Place.TheVariants as place
+use Rattle.run_outside.specs.declared.sink.SinkTarget.TheVariants as target
 use Rattle.run_outside.specs.declared.sink.WriteError.{WriteError}
 use Rattle.run_outside.specs.declared.sink.WriteError.TheVariants as write
 use Rattle.run_outside.specs.declared.tally.Tally.{Tally}
@@ -42,13 +42,13 @@ use Rattle.shadow_top.proofs.PartLemmas.{part_begun, part_line, part_text}
 
 -- ---- what is shown
 
-pub refused_shown : (i : Input) (old : Content) (fault : Fault) → IsFirstFault i fault → IsShown i old (add place.Err (line_of fault) old) 2
+pub refused_shown : (i : Input) (old : Content) (fault : Fault) → IsFirstFault i fault → IsShown i old (add target.Err (line_of fault) old) 2
 refused_shown i old fault first = refused (record { fault = fault; first = first; line = refl; status_is = refl })
 
-pub config_shown : (i : Input) (old : Content) (config : Config) → IsToShow i config → IsShown i old (add place.Out (shown config) old) 0
+pub config_shown : (i : Input) (old : Content) (config : Config) → IsToShow i config → IsShown i old (add target.Out (shown config) old) 0
 config_shown i old config asked = configured (record { config = config; asked = asked; text = refl; status_is = refl })
 
-pub list_shown : (i : Input) (old : Content) (capture : Capture) (lines : List ℕ) → IsToList i capture → AreLinesOf capture.records lines → IsShown i old (add place.Out lines old) 0
+pub list_shown : (i : Input) (old : Content) (capture : Capture) (lines : List ℕ) → IsToList i capture → AreLinesOf capture.records lines → IsShown i old (add target.Out lines old) 0
 list_shown i old capture lines asked are = listed (record { capture = capture; asked = asked; lines = lines; lines_are = are; text = refl; status_is = refl })
 
 pub run_shown : (i : Input) (old : Content) (run : Run) (w : World) → IsToRun i run → IsRunTo run w
@@ -69,28 +69,28 @@ shows one i old whole new status is shown_is fit =
     record { whole = whole; new_is = is; shown = shown_is; only = λ other another also. one.0 i old other whole another status also shown_is; log = fit }
 
 -- a front of the line of a refusal
-pub part_of_line : (i : Input) (old : Content) (fault : Fault) (new : Option Content) → IsFirstFault i fault → AddsFront place.Err (line_of fault) (Some old) new → ShowsPart i old new
+pub part_of_line : (i : Input) (old : Content) (fault : Fault) (new : Option Content) → IsFirstFault i fault → AddsFront target.Err (line_of fault) (Some old) new → ShowsPart i old new
 part_of_line i old fault new first front =
     let (now, now_is, part) = part_line old (line_of fault) new front in
-    inr (record { now = now; whole = add place.Err (line_of fault) old; status = 2; new_is = now_is; shown = refused_shown i old fault first; part = part })
+    inr (record { now = now; whole = add target.Err (line_of fault) old; status = 2; new_is = now_is; shown = refused_shown i old fault first; part = part })
 
 -- a front of a configuration
-pub part_of_config : (i : Input) (old : Content) (config : Config) (new : Option Content) → IsToShow i config → AddsFront place.Out (shown config) (Some old) new → ShowsPart i old new
+pub part_of_config : (i : Input) (old : Content) (config : Config) (new : Option Content) → IsToShow i config → AddsFront target.Out (shown config) (Some old) new → ShowsPart i old new
 part_of_config i old config new asked front =
     let (now, now_is, part) = part_text old (shown config) new front in
-    inr (record { now = now; whole = add place.Out (shown config) old; status = 0; new_is = now_is; shown = config_shown i old config asked; part = part })
+    inr (record { now = now; whole = add target.Out (shown config) old; status = 0; new_is = now_is; shown = config_shown i old config asked; part = part })
 
 -- a front of the lines of a capture
 part_of_list : (i : Input) (old : Content) (capture : Capture) (new : Option Content) → IsToList i capture → ListsFront capture old new → ShowsPart i old new
 part_of_list i old capture new asked told =
     ⊎_elim
     (λ (same : new ≡ Some old). inl same)
-    (λ (some : (lines : List ℕ) × AreLinesOf capture.records lines × AddsFront place.Out lines (Some old) new).
+    (λ (some : (lines : List ℕ) × AreLinesOf capture.records lines × AddsFront target.Out lines (Some old) new).
     let (now, now_is, part) = part_text old some.0 new some.2 in
-    inr (record { now = now; whole = add place.Out some.0 old; status = 0; new_is = now_is; shown = list_shown i old capture some.0 asked some.1; part = part }))
+    inr (record { now = now; whole = add target.Out some.0 old; status = 0; new_is = now_is; shown = list_shown i old capture some.0 asked some.1; part = part }))
     told
 
--- a front of the pieces of a run, place by place
+-- a front of the pieces of a run, target by target
 pub part_of_pieces : (i : Input) (old : Content) (run : Run) (w : World) (new : Option Content) → IsToRun i run → IsRunTo run w
     → Between (begun (directory_of run) old) new (with_pieces (pieces_of run w) (begun (directory_of run) old)) → ShowsPart i old new
 part_of_pieces i old run w new asked result b =
@@ -124,7 +124,7 @@ runs_in_part i c new write.NoMemory part = part
 shows_by : AreOne → (i : Input) (c : Content) (new : Option Content) (config : Config) (r : Result Answer WriteError) → IsToShow i config → ShowsConfig config c new r → Runs i c new (ended r)
 shows_by one i c new config (Ok answer) asked (new_is, answer_is) =
     subst (λ (a : Answer). Runs i c new (ended (Ok a))) (sym answer_is)
-    (shows one i c (add place.Out (shown config) c) new 0 new_is (config_shown i c config asked) (config_fit one.1 i config asked))
+    (shows one i c (add target.Out (shown config) c) new 0 new_is (config_shown i c config asked) (config_fit one.1 i config asked))
 shows_by one i c new config (Err error) asked front = runs_in_part i c new error (part_of_config i c config new asked front)
 
 runs_shown : AreOne → (words : List (List ℕ)) (held : Option Held) (old new : Option Content) (config : Config) (r : Result Answer WriteError)
@@ -139,7 +139,7 @@ runs_shown one words (Some h) (Some c) new config r asked told = shows_by one (i
 lists_by : AreOne → (i : Input) (c : Content) (new : Option Content) (capture : Capture) (r : Result Answer WriteError) → IsToList i capture → ListsCapture capture c new r → Runs i c new (ended r)
 lists_by one i c new capture (Ok answer) asked (lines, are, new_is, answer_is) =
     subst (λ (a : Answer). Runs i c new (ended (Ok a))) (sym answer_is)
-    (shows one i c (add place.Out lines c) new 0 new_is (list_shown i c capture lines asked are) (list_fit one.1 i capture asked))
+    (shows one i c (add target.Out lines c) new 0 new_is (list_shown i c capture lines asked are) (list_fit one.1 i capture asked))
 lists_by one i c new capture (Err error) asked front = runs_in_part i c new error (part_of_list i c capture new asked front)
 
 runs_listed : AreOne → (words : List (List ℕ)) (held : Option Held) (old new : Option Content) (capture : Capture) (r : Result Answer WriteError)
@@ -222,27 +222,27 @@ refused_line : AreOne → (words : List (List ℕ)) (held : Option Held) (old mi
     → TellsLine (line_of fault) 2 mid new m w' status → Outcome words held old new r r' w w' status
 refused_line one words held old mid new r r' w m w' status fault did reads faults errors told =
     ⊎_elim
-    (λ (all : (status ≡ 2) × (new ≡ option_map (add place.Err (line_of fault)) mid) × (w'.faults ≡ m.faults) × (w'.errors ≡ m.errors)).
+    (λ (all : (status ≡ 2) × (new ≡ option_map (add target.Err (line_of fault)) mid) × (w'.faults ≡ m.faults) × (w'.errors ≡ m.errors)).
     showed (omega arith) reads (all.2 ∙ faults) (all.3 ∙ errors)
     (told_map {P = λ i c. IsFirstFault i fault × (mid ≡ Some c)} {Q = λ i c. Shows i c new status} words held old
-    (λ i c h. shows one i c (add place.Err (line_of fault) c) new status (all.1 ∙ ap (option_map (add place.Err (line_of fault))) h.1)
-    (subst (IsShown i c (add place.Err (line_of fault) c)) (sym all.0) (refused_shown i c fault h.0))
+    (λ i c h. shows one i c (add target.Err (line_of fault) c) new status (all.1 ∙ ap (option_map (add target.Err (line_of fault))) h.1)
+    (subst (IsShown i c (add target.Err (line_of fault) c)) (sym all.0) (refused_shown i c fault h.0))
     (refused_fit one.1 i fault h.0)) did))
-    (λ (rest : ((status ≡ 4) × AddsFront place.Err (line_of fault) mid new × Rose m.faults w'.faults × EndsByError m.errors w') ⊎ ((status ≡ 5) × AddsFront place.Err (line_of fault) mid new × (w'.faults ≡ m.faults) × StopsAtError m.errors w')).
+    (λ (rest : ((status ≡ 4) × AddsFront target.Err (line_of fault) mid new × Rose m.faults w'.faults × EndsByError m.errors w') ⊎ ((status ≡ 5) × AddsFront target.Err (line_of fault) mid new × (w'.faults ≡ m.faults) × StopsAtError m.errors w')).
     ⊎_elim
-    (λ (failed : (status ≡ 4) × AddsFront place.Err (line_of fault) mid new × Rose m.faults w'.faults × EndsByError m.errors w').
+    (λ (failed : (status ≡ 4) × AddsFront target.Err (line_of fault) mid new × Rose m.faults w'.faults × EndsByError m.errors w').
     failed_writing failed.0 (subst (λ (x : ℕ). Rose x w'.faults) faults failed.2) (subst (λ (x : ℕ). EndsByError x w') errors failed.3)
     (told_map {P = λ i c. IsFirstFault i fault × (mid ≡ Some c)} {Q = λ i c. ShowsPart i c new ⊎ (Rose r r' × TellsPart i c new)} words held old
-    (λ i c h. inl (part_of_line i c fault new h.0 (subst (λ (o : Option Content). AddsFront place.Err (line_of fault) o new) h.1 failed.1))) did))
-    (λ (wanted : (status ≡ 5) × AddsFront place.Err (line_of fault) mid new × (w'.faults ≡ m.faults) × StopsAtError m.errors w').
+    (λ i c h. inl (part_of_line i c fault new h.0 (subst (λ (o : Option Content). AddsFront target.Err (line_of fault) o new) h.1 failed.1))) did))
+    (λ (wanted : (status ≡ 5) × AddsFront target.Err (line_of fault) mid new × (w'.faults ≡ m.faults) × StopsAtError m.errors w').
     wanted_memory wanted.0 (wanted.2 ∙ faults) (subst (λ (x : ℕ). StopsAtError x w') errors wanted.3)
     (told_map {P = λ i c. IsFirstFault i fault × (mid ≡ Some c)} {Q = λ i c. ShowsPart i c new ⊎ (Rose r r' × TellsPart i c new)} words held old
-    (λ i c h. inl (part_of_line i c fault new h.0 (subst (λ (o : Option Content). AddsFront place.Err (line_of fault) o new) h.1 wanted.1))) did))
+    (λ i c h. inl (part_of_line i c fault new h.0 (subst (λ (o : Option Content). AddsFront target.Err (line_of fault) o new) h.1 wanted.1))) did))
     rest)
     told
 
 -- a line that was meant for a read that failed
-part_of_failure : (i : Input) (old : Content) (file : List ℕ) (new : Option Content) → IsReached i file → AddsFront place.Err (read_failed_line file) (Some old) new → TellsPart i old new
+part_of_failure : (i : Input) (old : Content) (file : List ℕ) (new : Option Content) → IsReached i file → AddsFront target.Err (read_failed_line file) (Some old) new → TellsPart i old new
 part_of_failure i old file new reached front =
     let (now, now_is, part) = part_line old (read_failed_line file) new front in
     record { now = now; file = file; new_is = now_is; reached = reached; part = part }
@@ -252,20 +252,20 @@ failed_line : (words : List (List ℕ)) (held : Option Held) (old mid new : Opti
     → TellsLine (read_failed_line file) 3 mid new m w' status → Outcome words held old new r r' w w' status
 failed_line words held old mid new r r' w m w' status file did rose faults errors told =
     ⊎_elim
-    (λ (all : (status ≡ 3) × (new ≡ option_map (add place.Err (read_failed_line file)) mid) × (w'.faults ≡ m.faults) × (w'.errors ≡ m.errors)).
+    (λ (all : (status ≡ 3) × (new ≡ option_map (add target.Err (read_failed_line file)) mid) × (w'.faults ≡ m.faults) × (w'.errors ≡ m.errors)).
     failed_reading all.0 rose (all.2 ∙ faults) (all.3 ∙ errors)
     (told_map {P = λ i c. IsReached i file × (mid ≡ Some c)} {Q = λ i c. TellsReadFailed i c new} words held old
-    (λ i c h. record { file = file; reached = h.0; new_is = all.1 ∙ ap (option_map (add place.Err (read_failed_line file))) h.1 }) did))
-    (λ (rest : ((status ≡ 4) × AddsFront place.Err (read_failed_line file) mid new × Rose m.faults w'.faults × EndsByError m.errors w') ⊎ ((status ≡ 5) × AddsFront place.Err (read_failed_line file) mid new × (w'.faults ≡ m.faults) × StopsAtError m.errors w')).
+    (λ i c h. record { file = file; reached = h.0; new_is = all.1 ∙ ap (option_map (add target.Err (read_failed_line file))) h.1 }) did))
+    (λ (rest : ((status ≡ 4) × AddsFront target.Err (read_failed_line file) mid new × Rose m.faults w'.faults × EndsByError m.errors w') ⊎ ((status ≡ 5) × AddsFront target.Err (read_failed_line file) mid new × (w'.faults ≡ m.faults) × StopsAtError m.errors w')).
     ⊎_elim
-    (λ (failed : (status ≡ 4) × AddsFront place.Err (read_failed_line file) mid new × Rose m.faults w'.faults × EndsByError m.errors w').
+    (λ (failed : (status ≡ 4) × AddsFront target.Err (read_failed_line file) mid new × Rose m.faults w'.faults × EndsByError m.errors w').
     failed_writing failed.0 (subst (λ (x : ℕ). Rose x w'.faults) faults failed.2) (subst (λ (x : ℕ). EndsByError x w') errors failed.3)
     (told_map {P = λ i c. IsReached i file × (mid ≡ Some c)} {Q = λ i c. ShowsPart i c new ⊎ (Rose r r' × TellsPart i c new)} words held old
-    (λ i c h. inr (rose, part_of_failure i c file new h.0 (subst (λ (o : Option Content). AddsFront place.Err (read_failed_line file) o new) h.1 failed.1))) did))
-    (λ (wanted : (status ≡ 5) × AddsFront place.Err (read_failed_line file) mid new × (w'.faults ≡ m.faults) × StopsAtError m.errors w').
+    (λ i c h. inr (rose, part_of_failure i c file new h.0 (subst (λ (o : Option Content). AddsFront target.Err (read_failed_line file) o new) h.1 failed.1))) did))
+    (λ (wanted : (status ≡ 5) × AddsFront target.Err (read_failed_line file) mid new × (w'.faults ≡ m.faults) × StopsAtError m.errors w').
     wanted_memory wanted.0 (wanted.2 ∙ faults) (subst (λ (x : ℕ). StopsAtError x w') errors wanted.3)
     (told_map {P = λ i c. IsReached i file × (mid ≡ Some c)} {Q = λ i c. ShowsPart i c new ⊎ (Rose r r' × TellsPart i c new)} words held old
-    (λ i c h. inr (rose, part_of_failure i c file new h.0 (subst (λ (o : Option Content). AddsFront place.Err (read_failed_line file) o new) h.1 wanted.1))) did))
+    (λ i c h. inr (rose, part_of_failure i c file new h.0 (subst (λ (o : Option Content). AddsFront target.Err (read_failed_line file) o new) h.1 wanted.1))) did))
     rest)
     told
 

@@ -1,7 +1,7 @@
 -- What a refusal and a read that failed leave as it stood.
 use Rattle.std.proofs.Common.{◌≡◌, ℕ, ◌≤◌, inl, inr, List, Option, Some, None, option_map, Result, Ok, Err, IfSome, refl, sym, ap, subst, ◌∙◌, arith}
 use Rattle.run_outside.specs.Sink.{Content, add}
-use Rattle.run_outside.specs.declared.sink.Place.TheVariants as place
+use Rattle.run_outside.specs.declared.sink.SinkTarget.TheVariants as target
 use Rattle.run_outside.specs.declared.sink.WriteError.{WriteError}
 use Rattle.run_outside.specs.declared.sink.WriteError.TheVariants as write
 use Rattle.run_outside.specs.declared.tally.Tally.{Tally}
@@ -43,7 +43,7 @@ ran_untouched (Some c) new status small = λ low high. absurd (omega arith)
 line_added : (line : List ℕ) (meant : ℕ) (c : Content) (mid new : Option Content) (m w' : Tally) (status : ℕ) → mid ≡ Some c → TellsLine line meant mid new m w' status
     → 2 ≤ status → status ≤ 3 → AddsLine c new
 line_added line meant c mid new m w' status is (inl all) low high =
-    record { line = line; new_is = all.1 ∙ ap (option_map (add place.Err line)) is }
+    record { line = line; new_is = all.1 ∙ ap (option_map (add target.Err line)) is }
 line_added line meant c mid new m w' status is (inr (inl failed)) low high = let four : status ≡ 4 = failed.0 in absurd (omega arith)
 line_added line meant c mid new m w' status is (inr (inr wanted)) low high = let five : status ≡ 5 = wanted.0 in absurd (omega arith)
 

@@ -1,7 +1,7 @@
 -- What the program promises of its status and of what stands where after it.
 use Rattle.std.specs.Prelude.{◌≡◌, ℕ, ◌⊎◌, List, Option, Some, codes}
 use Rattle.run_outside.specs.Sink.{Content, add}
-use Rattle.run_outside.specs.declared.sink.Place.TheVariants as place
+use Rattle.run_outside.specs.declared.sink.SinkTarget.TheVariants as target
 use Rattle.out_text.specs.Faults.{file_line}
 use Rattle.run_files.specs.LinesFit.{AllFit}
 use Rattle.host_link.specs.Logs.{lines_of}
@@ -31,9 +31,9 @@ read_failed_line file = file_line file (codes "read failed")
 pub record TellsReadFailed (input : Input) (old : Content) (new : Option Content) : Type 0 where
   pub file : List ℕ
   pub reached : IsReached input file
-  pub new_is : new ≡ Some (add place.Err (read_failed_line file) old)
+  pub new_is : new ≡ Some (add target.Err (read_failed_line file) old)
 
--- each place holds what it held and a front of what is shown adds there
+-- each target holds what it held and a front of what is shown adds there
 pub record ShowsFront (input : Input) (old : Content) (new : Option Content) : Type 0 where
   pub now : Content
   pub whole : Content
@@ -52,9 +52,9 @@ pub record TellsPart (input : Input) (old : Content) (new : Option Content) : Ty
   pub file : List ℕ
   pub new_is : new ≡ Some now
   pub reached : IsReached input file
-  pub part : IsPart old now (add place.Err (read_failed_line file) old)
+  pub part : IsPart old now (add target.Err (read_failed_line file) old)
 
 -- a line was added to the error stream, and all else stands as it stood
 pub record AddsLine (old : Content) (new : Option Content) : Type 0 where
   pub line : List ℕ
-  pub new_is : new ≡ Some (add place.Err line old)
+  pub new_is : new ≡ Some (add target.Err line old)

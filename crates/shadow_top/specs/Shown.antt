@@ -1,7 +1,7 @@
 -- What the program shows for an input.
 use Rattle.std.specs.Prelude.{◌≡◌, ℕ, List}
 use Rattle.run_outside.specs.Sink.{Content, add, begun}
-use Rattle.run_outside.specs.declared.sink.Place.TheVariants as place
+use Rattle.run_outside.specs.declared.sink.SinkTarget.TheVariants as target
 use Rattle.host_state.specs.World.{World, IsResult, opening_world}
 use Rattle.run_files.specs.Files.{Put}
 use Rattle.net_run.specs.Pieces.{with_pieces}
@@ -20,14 +20,14 @@ use Rattle.pcap_text.specs.declared.capture.Capture.{Capture}
 pub record IsRefused (i : Input) (old new : Content) (status : ℕ) : Type 0 where
   pub fault : Fault
   pub first : IsFirstFault i fault
-  pub line : new ≡ add place.Err (line_of fault) old
+  pub line : new ≡ add target.Err (line_of fault) old
   pub status_is : status ≡ 2
 
 -- a configuration that is to be shown is put on the output
 pub record IsConfigShown (i : Input) (old new : Content) (status : ℕ) : Type 0 where
   pub config : Config
   pub asked : IsToShow i config
-  pub text : new ≡ add place.Out (shown config) old
+  pub text : new ≡ add target.Out (shown config) old
   pub status_is : status ≡ 0
 
 -- the lines of a capture that is to be listed are put on the output
@@ -36,7 +36,7 @@ pub record IsCaptureListed (i : Input) (old new : Content) (status : ℕ) : Type
   pub asked : IsToList i capture
   pub lines : List ℕ
   pub lines_are : AreLinesOf capture.records lines
-  pub text : new ≡ add place.Out lines old
+  pub text : new ≡ add target.Out lines old
   pub status_is : status ≡ 0
 
 -- the result of a run: the world that its hosts reach when no event is due before the stop

@@ -12,7 +12,7 @@ use crate::stop::Answer;
 use base_texts::Text;
 use out_text::{cut_line, packet_line};
 use pcap_text::{Capture, Record};
-use run_outside::{Place, Sink, WriteError, put_all};
+use run_outside::{Sink, SinkTarget, WriteError, put_all};
 use sim_base::NoMemory;
 use std::alloc::Global;
 
@@ -50,6 +50,6 @@ pub(crate) fn list_capture<K: Sink>(
     ensures count { CountsWrites result (K.tally sink.old) (K.tally sink.new) }
 {
     let lines = capture_text(alloc, capture)?;
-    put_all(sink, &Place::Out, lines.as_bytes())?;
+    put_all(sink, &SinkTarget::Out, lines.as_bytes())?;
     Ok(Answer::Status(0))
 }

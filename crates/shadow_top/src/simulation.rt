@@ -25,7 +25,7 @@ use net_run::{parts_are_between, put_notes};
 use opened_run::{Opened, open};
 use out_text::FaultText;
 use round_lookahead::{World, one_result};
-use run_outside::{Place, Sink, Source, WriteError, put_all};
+use run_outside::{Sink, SinkTarget, Source, WriteError, put_all};
 use run_plan::laws::one_plan;
 use run_plan::{Fault, Planned, Run, read_plan, tell, worker_count};
 use shd_config::Config;
@@ -38,7 +38,7 @@ use steal_workers::Gate;
 fn put_line<K: Sink>(sink: &mut K, line: &Text, status: u8) -> u8
     ensures { TellsLine line.now status (K.content sink.old) (K.content sink.new) (K.tally sink.old) (K.tally sink.new) result }
 {
-    match put_all(sink, &Place::Err, line.as_bytes()) {
+    match put_all(sink, &SinkTarget::Err, line.as_bytes()) {
         Ok(()) => status,
         Err(WriteError::Failed) => 4,
         Err(WriteError::NoMemory) => 5,
@@ -91,7 +91,7 @@ fn show_config<K: Sink>(alloc: Global, sink: &mut K, config: &Config) -> Result<
 {
     let mut text = Text::new(alloc);
     show_into(config, &mut text)?;
-    put_all(sink, &Place::Out, text.as_bytes())?;
+    put_all(sink, &SinkTarget::Out, text.as_bytes())?;
     Ok(Answer::Status(0))
 }
 
@@ -290,7 +290,7 @@ pub fn shadow<S: Source, K: Sink, G: Gate + Sync, R: Threads + Sync + AllocGloba
     // 4: a write failed.
     ensures write_failed { result ≡ 4 → Rose (K.tally sink.old).faults (K.tally sink.new).faults }
 
-    // After 4 and 5 each place holds a front of what it would.
+    // After 4 and 5 each target holds a front of what it would.
     ensures part { IfSome (S.held source.old) (λ held. IfSome (K.content sink.old)
         (λ c. 4 ≤ result → ShowsPart (input (map string_bytes words.now) held c) c (K.content sink.new)
         ⊎ (Rose (S.faults source.old) (S.faults source.new) × TellsPart (input (map string_bytes words.now) held c) c (K.content sink.new)))) }

@@ -16,7 +16,7 @@ pub record TellsAll (w : World) (told : List (Vec State Global)) : Type 0 where
   pub count : length told ≡ length w.hosts
   pub each : (k : ℕ) (h : HostRecord) (states : Vec State Global) → slice_get w.hosts k ≡ Some h → slice_get told k ≡ Some states → TellsStates h states.items
 
--- what stands is what the world shows, and this is its status; or each place holds a front of that
+-- what stands is what the world shows, and this is its status; or each target holds a front of that
 abbrev pub PutsEnd : Bool → World → Option Content → Option Content → Result ℕ WriteError → Type 0
 PutsEnd load w old new (Ok status) = ((begun : Content) → old ≡ Some begun → new ≡ Some (with_pieces (run_pieces load w) begun)) × (status ≡ status_of w)
 PutsEnd load w old new (Err error) = (begun : Content) → old ≡ Some begun → Between begun new (with_pieces (run_pieces load w) begun)

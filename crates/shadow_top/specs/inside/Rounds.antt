@@ -33,7 +33,7 @@ PutsRound c d workers w old new (Err error) = PutsSomeGained c d workers w old n
 abbrev pub StandsAt : World → Option Content → Option Content → Type 0
 StandsAt w old now = (begun : Content) → old ≡ Some begun → IsUnderway (names_in w) begun now w
 
--- each place holds a front of what the world shows
+-- each target holds a front of what the world shows
 abbrev pub StandsBefore : World → Option Content → Option Content → Type 0
 StandsBefore w old now = (begun : Content) → old ≡ Some begun → (load : Bool) → Between begun now (with_pieces (run_pieces load w) begun)
 
@@ -45,7 +45,7 @@ pub record HasAllRounds (c d : rounds.World) (w : World) (old new : Option Conte
   pub stands : StandsAt world old new
   pub fit : AllFit (lines_of w.log) → AllFit (lines_of world.log)
 
--- each place holds a front of what the result shows
+-- each target holds a front of what the result shows
 abbrev pub PutsInPart : rounds.World → World → Option Content → Option Content → Type 0
 PutsInPart c w old new = (r : World) × IsResult c.net r w × StandsBefore r old new
 

@@ -3,7 +3,7 @@ use Rattle.std.specs.Prelude.{◌≡◌, ℕ, ◌⊎◌, List, Option, Some, opt
 use Rattle.run_outside.specs.Faults.{Rose}
 use Rattle.run_outside.specs.Sink.{Content, add, begun, AddsFront}
 use Rattle.run_outside.specs.Tally.{EndsByError, StopsAtError}
-use Rattle.run_outside.specs.declared.sink.Place.TheVariants as place
+use Rattle.run_outside.specs.declared.sink.SinkTarget.TheVariants as target
 use Rattle.run_outside.specs.declared.sink.WriteError.{WriteError}
 use Rattle.run_outside.specs.declared.tally.Tally.{Tally}
 use Rattle.run_files.specs.LinesFit.{AllFit}
@@ -49,19 +49,19 @@ Runs input old new (Err NoMemory) = ShowsPart input old new
 
 -- what showing a configuration leaves
 abbrev pub ShowsConfig : Config → Content → Option Content → Result Answer WriteError → Type 0
-ShowsConfig config c new (Ok answer) = (new ≡ Some (add place.Out (shown config) c)) × (answer ≡ Status 0)
-ShowsConfig config c new (Err error) = AddsFront place.Out (shown config) (Some c) new
+ShowsConfig config c new (Ok answer) = (new ≡ Some (add target.Out (shown config) c)) × (answer ≡ Status 0)
+ShowsConfig config c new (Err error) = AddsFront target.Out (shown config) (Some c) new
 
 -- nothing was put, or a front of the lines of a capture
 abbrev pub ListsFront : Capture → Content → Option Content → Type 0
-ListsFront capture c new = (new ≡ Some c) ⊎ ((lines : List ℕ) × AreLinesOf capture.records lines × AddsFront place.Out lines (Some c) new)
+ListsFront capture c new = (new ≡ Some c) ⊎ ((lines : List ℕ) × AreLinesOf capture.records lines × AddsFront target.Out lines (Some c) new)
 
 -- what listing a capture leaves
 abbrev pub ListsCapture : Capture → Content → Option Content → Result Answer WriteError → Type 0
-ListsCapture capture c new (Ok answer) = (lines : List ℕ) × AreLinesOf capture.records lines × (new ≡ Some (add place.Out lines c)) × (answer ≡ Status 0)
+ListsCapture capture c new (Ok answer) = (lines : List ℕ) × AreLinesOf capture.records lines × (new ≡ Some (add target.Out lines c)) × (answer ≡ Status 0)
 ListsCapture capture c new (Err error) = ListsFront capture c new
 
--- what stands is what a world shows, and its log's lines fit; or each place holds a front of that
+-- what stands is what a world shows, and its log's lines fit; or each target holds a front of that
 abbrev pub Reports : Bool → Bool → World → Content → Option Content → Result ℕ WriteError → Type 0
 Reports load streams w c new (Ok status) = (new ≡ Some (with_pieces (all_pieces load streams w) c)) × (status ≡ status_of w) × AllFit (lines_of w.log)
 Reports load streams w c new (Err error) = Between c new (with_pieces (all_pieces load streams w) c)
@@ -70,7 +70,7 @@ Reports load streams w c new (Err error) = Between c new (with_pieces (all_piece
 abbrev pub RunsNoted : Opened → Content → Option Content → Result ℕ WriteError → Type 0
 RunsNoted opened c new r = (w : World) × IsResult opened.net w (opening_world opened.rows.items) × Reports opened.is_self_load opened.streams w c new r
 
--- a front of the pieces of an opened run's result was put, place by place
+-- a front of the pieces of an opened run's result was put, target by target
 abbrev pub PutsSome : Opened → Content → Option Content → Type 0
 PutsSome opened c new =
     (w : World) × IsResult opened.net w (opening_world opened.rows.items) × Between c new (with_pieces (pieces opened.notes opened.is_self_load opened.streams w) c)
@@ -82,7 +82,7 @@ RunsOpened opened c new (Ok status) =
     × (new ≡ Some (with_pieces (pieces opened.notes opened.is_self_load opened.streams w) c)) × (status ≡ status_of w) × AllFit (lines_of w.log)
 RunsOpened opened c new (Err error) = PutsSome opened c new
 
--- nothing was put; or the directory was made, and a front of the pieces of the run's result was put, place by place
+-- nothing was put; or the directory was made, and a front of the pieces of the run's result was put, target by target
 abbrev pub RunsInPart : Run → Content → Option Content → Type 0
 RunsInPart run c new = (new ≡ Some c)
     ⊎ ((c.there (directory_of run) ≡ false) × (w : World) × IsRunTo run w
@@ -107,9 +107,9 @@ CarriesOut (plan.Lists capture) c new r = ListsCapture capture c new r
 -- a line was told, or its write failed, or memory ran out; after an error of the sink it was not called again
 abbrev pub TellsLine : List ℕ → ℕ → Option Content → Option Content → Tally → Tally → ℕ → Type 0
 TellsLine line meant old new before now status =
-    ((status ≡ meant) × (new ≡ option_map (add place.Err line) old) × (now.faults ≡ before.faults) × (now.errors ≡ before.errors))
-    ⊎ (((status ≡ 4) × AddsFront place.Err line old new × Rose before.faults now.faults × EndsByError before.errors now)
-    ⊎ ((status ≡ 5) × AddsFront place.Err line old new × (now.faults ≡ before.faults) × StopsAtError before.errors now))
+    ((status ≡ meant) × (new ≡ option_map (add target.Err line) old) × (now.faults ≡ before.faults) × (now.errors ≡ before.errors))
+    ⊎ (((status ≡ 4) × AddsFront target.Err line old new × Rose before.faults now.faults × EndsByError before.errors now)
+    ⊎ ((status ≡ 5) × AddsFront target.Err line old new × (now.faults ≡ before.faults) × StopsAtError before.errors now))
 
 -- what telling a stop leaves: after a write that failed, and where memory ran out, the sink was not called
 abbrev pub Tells : Stop → Option Content → Option Content → Tally → Tally → ℕ → Type 0

@@ -12,7 +12,7 @@ returns-in_err-put_all-clause-err g c =
     let new = g.K.Sink.content c.put_all.new.sink in
     let next : drop c.loop-piece.piece-index puts ≡ put_of c.piece-item.result ∷ drop (c.loop-piece.piece-index + 1) puts =
     drop_puts_next _ _ _ c.loop-piece-test.true c.piece-item.is in
-    on_err c.from_residual.result (c.loop-piece.invariant.part new (subst (λ (ps : List Put). PutsFront ps old new) (sym next) (inl (subst (λ (bytes : List ℕ). AddsFront c.piece-item.result.place bytes old new) c.as_slice.ensures c.in_err-put_all.ensures.err))))
+    on_err c.from_residual.result (c.loop-piece.invariant.part new (subst (λ (ps : List Put). PutsFront ps old new) (sym next) (inl (subst (λ (bytes : List ℕ). AddsFront c.piece-item.result.target bytes old new) c.as_slice.ensures c.in_err-put_all.ensures.err))))
 
 pub loop-piece-preserved : goal.loop-piece-preserved
 loop-piece-preserved g c =
@@ -23,7 +23,7 @@ loop-piece-preserved g c =
     let put = put_of c.piece-item.result in
     let next : drop c.loop-piece.piece-index puts ≡ put ∷ rest = drop_puts_next _ _ _ c.loop-piece-test.true c.piece-item.is in
     let added : mid ≡ option_map (add put.0 put.1) old =
-    subst (λ (bytes : List ℕ). mid ≡ option_map (add c.piece-item.result.place bytes) old) c.as_slice.ensures c.in_ok-put_all.ensures.ok in
+    subst (λ (bytes : List ℕ). mid ≡ option_map (add c.piece-item.result.target bytes) old) c.as_slice.ensures c.in_ok-put_all.ensures.ok in
     record {
       whole = ap (option_map (with_pieces rest)) added ∙ sym (with_pieces_told put rest old)
           ∙ ap (λ (ps : List Put). option_map (with_pieces ps) old) (sym next) ∙ c.loop-piece.invariant.whole;
