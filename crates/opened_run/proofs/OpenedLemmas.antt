@@ -1,17 +1,13 @@
 -- The rows of a run are those of its net, which can be run by rounds.
 use Rattle.std.proofs.Common.{◌≡◌, ◌≢◌, ℕ, zero, suc, ◌+◌, ◌<◌, ◌≤◌, List, [], ◌∷◌, length, map, All, Option, Some, None, option_map, IfSome, slice_get, refl, sym, ap, subst, ◌∙◌, arith}
-use Rattle.std.specs.Prelude.{option_and_then}
-use Rattle.std.proofs.lemmas.Option.{get_or_from_slice_get}
 use Rattle.std.proofs.lemmas.List.Elements.{All-head, All-tail}
 use Rattle.host_link.specs.Net.{Net}
 use Rattle.host_rows.specs.declared.row.Row.{Row}
 use Rattle.host_state.specs.Fits.{IsLatency, IsLookaheadOf, IsShort}
 use Rattle.host_state.specs.World.{AreRows}
-use Rattle.host_link.specs.Sending.{route_from, told}
 use Rattle.net_routes.specs.declared.cost.Cost.{Cost}
 use Rattle.net_routes.specs.RouteMap.{RouteMap}
 use Rattle.net_routes.specs.Least.{IsLookahead}
-use Rattle.net_routes.specs.Needed.{IsAt, IsNeeded}
 use Rattle.net_routes.specs.Routes.{route_in}
 use Rattle.run_plan.specs.Limits.{KeepsToLimits}
 use Rattle.run_plan.specs.Names.{AreApart, AreRowsApart}
@@ -25,6 +21,8 @@ use Rattle.shd_config.specs.declared.config.ProcessConfig.{ProcessConfig}
 use Rattle.plan_rows.specs.Rows.{processes_of, row_of, rows_from, rows_of, net_of, cut_lookahead}
 use Rattle.opened_run.specs.Opened.{Opens, HasOpened}
 use Rattle.opened_run.specs.declared.opened.Opened.{Opened}
+use Rattle.std.proofs.lemmas.Option.{slice_get_within}
+use Rattle.host_link.proofs.RoutesFound.{IsRouteOf, route_found, are_two, takes_least}
 
 length-map : {A B : Type 0} (f : A → B) (xs : List A) → length (map f xs) ≡ length xs
 length-map f [] = refl
@@ -59,11 +57,6 @@ rows_at s n (h ∷ hs) few (suc i) row at =
     let place : (n + 1) + i ≡ n + suc i = omega arith in
     subst (λ (k : ℕ). IsRowAt k row) place there
 
-slice_within : {A : Type 0} (xs : List A) (i : ℕ) (x : A) → slice_get xs i ≡ Some x → i < length xs
-slice_within [] i x at = absurd (cc)
-slice_within (y ∷ ys) zero x at = omega arith
-slice_within (y ∷ ys) (suc i) x at = let rest = slice_within ys i x at in omega (arith, rest)
-
 -- each host has a name in the book
 length_book : (run : Run) → length (net_of run).known.book ≡ length run.plan.rows
 length_book run = length-map (λ (h : HostRow). h.address) run.plan.rows
@@ -77,7 +70,7 @@ rows_fit run within =
       count = count;
       places = λ i row is. (at i row is).number_is;
       fit = λ i row is. record {
-        within = (let here = slice_within (rows_of run) i row is in let number = (at i row is).number_is in omega (arith, here, count, number));
+        within = (let here = slice_get_within (rows_of run) i row is in let number = (at i row is).number_is in omega (arith, here, count, number));
         few = (at i row is).few;
       };
       stop = (let early = within.stop.1 in omega (arith, early));
@@ -85,53 +78,13 @@ rows_fit run within =
 
 -- ---- rounds
 
--- what is known of a route from a host to another one
-record IsRouteOf (nodes : List ℕ) (routes : RouteMap) (i j : ℕ) (route : Time × ℕ) : Type 0 where
-  from : ℕ
-  to : ℕ
-  cost : Cost
-  from_is : slice_get nodes i ≡ Some from
-  to_is : slice_get nodes j ≡ Some to
-  cost_is : route_in routes from to ≡ Some cost
-  route_is : told cost ≡ route
-
-route_costs : (nodes : List ℕ) (routes : RouteMap) (i j from to : ℕ) (route : Time × ℕ) (o : Option Cost) → slice_get nodes i ≡ Some from → slice_get nodes j ≡ Some to
-    → route_in routes from to ≡ o → option_map told o ≡ Some route → IsRouteOf nodes routes i j route
-route_costs nodes routes i j from to route None from_is to_is kept is = absurd (cc)
-route_costs nodes routes i j from to route (Some cost) from_is to_is kept is =
-    record { from = from; to = to; cost = cost; from_is = from_is; to_is = to_is; cost_is = kept; route_is = (let e : Some (told cost) ≡ Some route = is in cc) }
-
-route_leads : (net : Net) (i j from : ℕ) (route : Time × ℕ) (b : Option ℕ) → slice_get net.nodes i ≡ Some from → slice_get net.nodes j ≡ b
-    → option_and_then (λ (to : ℕ). option_map told (route_in net.routes from to)) b ≡ Some route → IsRouteOf net.nodes net.routes i j route
-route_leads net i j from route None from_is at is = absurd (cc)
-route_leads net i j from route (Some to) from_is at is = route_costs net.nodes net.routes i j from to route (route_in net.routes from to) from_is at refl is
-
-route_begins : (net : Net) (i j : ℕ) (route : Time × ℕ) (a : Option ℕ) → slice_get net.nodes i ≡ a
-    → option_and_then (λ (from : ℕ). option_and_then (λ (to : ℕ). option_map told (route_in net.routes from to)) (slice_get net.nodes j)) a ≡ Some route
-    → IsRouteOf net.nodes net.routes i j route
-route_begins net i j route None at is = absurd (cc)
-route_begins net i j route (Some from) at is = route_leads net i j from route (slice_get net.nodes j) at refl is
-
-route_found : (net : Net) (i j : ℕ) (route : Time × ℕ) → route_from net i j ≡ Some route → IsRouteOf net.nodes net.routes i j route
-unfolding route_from
-route_found net i j route is = route_begins net i j route (slice_get net.nodes i) refl is
-
-is_at : (xs : List ℕ) (i x : ℕ) → slice_get xs i ≡ Some x → IsAt xs i x
-is_at xs i x at = record { within = slice_within xs i x at; is = get_or_from_slice_get xs i x 0 at }
-
 -- with two hosts there is a lookahead, and no route between them takes less
 latency_is : (nodes : List ℕ) (routes : RouteMap) (lookahead : Option Time) (i j : ℕ) (latency : Time) (reliability : ℕ) → IsLookahead nodes routes (nanos_of lookahead) → i ≢ j
     → IsRouteOf nodes routes i j (latency, reliability) → IsLatency (nanos_of (cut_lookahead lookahead)) latency.nanos
-latency_is nodes routes None i j latency reliability few others route =
-    let one = slice_within nodes i route.from route.from_is in
-    let other = slice_within nodes j route.to route.to_is in
-    others (let e : i ≡ j = omega (arith, few, one, other) in e)
+latency_is nodes routes None i j latency reliability few others route = are_two nodes routes i j (latency, reliability) few others route
 latency_is nodes routes (Some time) i j latency reliability least others route =
-    let needed : IsNeeded nodes route.from route.to =
-    record { first = i; second = j; others = others; from = is_at nodes i route.from route.from_is; to = is_at nodes j route.to route.to_is } in
-    let bound = least.each route.from route.to route.cost.latency needed (ap (option_map (λ (c : Cost). c.latency)) route.cost_is) in
-    let same : route.cost.latency ≡ latency.nanos = ap (λ (r : Time × ℕ). r.0.nanos) route.route_is in
-    omega (arith, bound, same)
+    let bound = takes_least nodes routes time.nanos i j latency reliability least others route in
+    omega (arith, bound)
 
 abbrev IsAhead : Option Time → Type 0
 IsAhead lookahead = IfSome lookahead (λ (time : Time). 0 < time.nanos)
