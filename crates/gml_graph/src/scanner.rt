@@ -111,7 +111,7 @@ pub struct Scanner<'a> {
 }
 
 impl<'a> Scanner<'a> {
-    ghost use Rattle.gml_graph.specs.inside.Left.{left, is_settled, begins_word};
+    ghost use Rattle.gml_graph.specs.inside.Left.{left, is_at_token, begins_word};
 
     pub fn new(text: &'a str) -> Self
         ensures { left result ≡ tokens text.now }
@@ -137,7 +137,7 @@ impl<'a> Scanner<'a> {
         ensures same { left self.new ≡ left self.old }
         ensures shorter { OnTrue result (length self.new.rest.now < length self.old.rest.now) }
         ensures no_longer { length self.new.rest.now ≤ length self.old.rest.now }
-        ensures settled { OnFalse result (is_settled self.new ≡ true) }
+        ensures at_token { OnFalse result (is_at_token self.new ≡ true) }
     {
         let bytes = self.rest.as_bytes();
         if bytes.is_empty() {
@@ -163,7 +163,7 @@ impl<'a> Scanner<'a> {
 
     /// Takes the token at the front, if anything is left.
     fn take(&mut self) -> Option<Lexeme>
-        requires { is_settled self.old ≡ true }
+        requires { is_at_token self.old ≡ true }
         ensures next { MatchOption result (left self.old ≡ []) (λ x. left self.old ≡ x ∷ left self.new) }
         ensures shorter { OnSome result (length self.new.rest.now < length self.old.rest.now) }
     {

@@ -14,7 +14,7 @@ use Rattle.host_inbox.specs.declared.rule.Known.{Known}
 use Rattle.host_inbox.specs.declared.rule.Size.{Size}
 use Rattle.list_weights.specs.Weights.{weigh, numbers_below, only}
 use Rattle.host_inbox.specs.Entries.{place_of, claim, entry}
-use Rattle.host_inbox.specs.Inboxes.{IsSettled, IsPending, Fits, AreInboxes, known_weight}
+use Rattle.host_inbox.specs.Inboxes.{IsEntered, IsPending, Fits, AreInboxes, known_weight}
 use Rattle.host_inbox.specs.Steps.{after_claim, after_full, Claimed}
 use Rattle.list_weights.proofs.Weights.{weigh_set}
 use Rattle.host_inbox.proofs.Weights.{weigh_next}
@@ -60,7 +60,7 @@ module _ {T : Type 0} where
       omega arith)
 
   claim_placed : (size : Size) (s : State (Option T) (Known T)) (host m id : ℕ) (v : Known T) → AreInboxes size s → host < size.hosts → get_elem? s.views id ≡ some v → m ≡ get_or s.words host 0 + 1
-      → length v.settled + length v.pending < v.share * 4294967296 → get_or s.words host 0 < 16
+      → length v.entered + length v.pending < v.share * 4294967296 → get_or s.words host 0 < 16
       → AreInboxes size (stepped s host m id [] (after_claim v host (get_or s.words host 0)) (takes (place_of host (get_or s.words host 0)) None))
   claim_placed size s host m id v rule near at next few small =
       let n : ℕ = get_or s.words host 0 in
@@ -96,14 +96,14 @@ module _ {T : Type 0} where
           let old = fits_taken size.hosts s.homes (place_of host n) v home (rule.each id v at) in
           let P : Claim → Type 0 = IsPending size.hosts (set s.homes (place_of host n) none) in
           record {
-            settled = old.settled;
+            entered = old.entered;
             pending = recursion_from_All P (v.pending ++ claim host n ∷ []) (All-push P v.pending (claim host n) (All-from_recursion P v.pending old.pending)
                 (record { host = near; number = small; out = set_here s.homes (place_of host n) none (within s.homes (place_of host n) (some None) home) }));
             few = omega (arith, length-append v.pending (claim host n ∷ []));
           }
 
   claim_full : (size : Size) (s : State (Option T) (Known T)) (host m id : ℕ) (v : Known T) → AreInboxes size s → host < size.hosts → get_elem? s.views id ≡ some v → m ≡ get_or s.words host 0 + 1
-      → length v.settled + length v.pending < v.share * 4294967296 → 16 ≤ get_or s.words host 0
+      → length v.entered + length v.pending < v.share * 4294967296 → 16 ≤ get_or s.words host 0
       → AreInboxes size (stepped s host m id [] (after_full v host (get_or s.words host 0)) keeps)
   claim_full size s host m id v rule near at next few large =
       let n : ℕ = get_or s.words host 0 in
@@ -130,16 +130,16 @@ module _ {T : Type 0} where
           let n : ℕ = get_or s.words host 0 in
           let old = rule.each id v at in
           let e : Entry (Option T) = entry host n None in
-          let P : Entry (Option T) → Type 0 = IsSettled size.hosts s.homes in
+          let P : Entry (Option T) → Type 0 = IsEntered size.hosts s.homes in
           record {
-            settled = recursion_from_All P (v.settled ++ e ∷ []) (All-push P v.settled e (All-from_recursion P v.settled old.settled)
+            entered = recursion_from_All P (v.entered ++ e ∷ []) (All-push P v.entered e (All-from_recursion P v.entered old.entered)
                 (record { host = near; placed = λ small. absurd (omega arith); full = λ small. absurd (omega arith) }));
             pending = old.pending;
-            few = omega (arith, length-append v.settled (e ∷ []));
+            few = omega (arith, length-append v.entered (e ∷ []));
           }
 
   -- a claim may be made while the seat has fewer than its share of claims
-  pub claims : (size : Size) (slots id host : ℕ) (v : Known T) → host < size.hosts → length v.settled + length v.pending < v.share * 4294967296
+  pub claims : (size : Size) (slots id host : ℕ) (v : Known T) → host < size.hosts → length v.entered + length v.pending < v.share * 4294967296
       → Allows (AreInboxes size) slots id (v, []) host (λ n. (n + 1) % 2 ^ 64) (Claimed (step slots host 1 0 none) (v, []))
   claims size slots id host v near few s rule long at fits =
       let n : ℕ = get_or s.words host 0 in
@@ -162,7 +162,7 @@ module _ {T : Type 0} where
       ))
 
   -- the same, of a seat that holds no place
-  pub claims_of : (size : Size) (slots id host : ℕ) (me : Me (Option T) (Known T)) → host < size.hosts → me.1 ≡ [] → length me.0.settled + length me.0.pending < me.0.share * 4294967296
+  pub claims_of : (size : Size) (slots id host : ℕ) (me : Me (Option T) (Known T)) → host < size.hosts → me.1 ≡ [] → length me.0.entered + length me.0.pending < me.0.share * 4294967296
       → Allows (AreInboxes size) slots id me host (λ n. (n + 1) % 2 ^ 64) (Claimed (step slots host 1 0 none) me)
   claims_of size slots id host me near empty few =
       subst

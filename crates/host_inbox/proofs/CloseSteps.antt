@@ -12,7 +12,7 @@ use Rattle.host_inbox.specs.declared.rule.Known.{Known}
 use Rattle.host_inbox.specs.declared.rule.Size.{Size}
 use Rattle.list_weights.specs.Weights.{weigh, numbers_below, only}
 use Rattle.host_inbox.specs.Entries.{place_of, claim_weight, entry_weight}
-use Rattle.host_inbox.specs.Inboxes.{IsSettled, Fits, AreInboxes, known, known_weight}
+use Rattle.host_inbox.specs.Inboxes.{IsEntered, Fits, AreInboxes, known, known_weight}
 use Rattle.host_inbox.specs.inside.Carriers.{filed, kept_if}
 use Rattle.host_inbox.specs.Drains.{numbers_of}
 use Rattle.host_inbox.specs.inside.Slots.{AreLaid, AreClosed}
@@ -59,7 +59,7 @@ module _ {T : Type 0} where
   idle : (hosts : ℕ) (homes : List (Place (Option T))) (host : ℕ) (h : ℕ → ℕ) (u : Known T) → Fits hosts homes u → u.share ≡ 0 → known_weight host h u ≡ 0
   idle hosts homes host h u fits no_share =
       let few = fits.few in
-      let a = weigh_none (entry_weight host h) u.settled (omega arith) in
+      let a = weigh_none (entry_weight host h) u.entered (omega arith) in
       let b = weigh_none (claim_weight host h) u.pending (omega arith) in
       omega arith
 
@@ -82,7 +82,7 @@ module _ {T : Type 0} where
         full = λ number below small.
             (let one = just_once number n below in
             let sum = weighs (is_number number) in
-            let found = find_entry (IsSettled size.hosts s.homes) host number (map filed entries) (omega arith) mine.settled in
+            let found = find_entry (IsEntered size.hosts s.homes) host number (map filed entries) (omega arith) mine.entered in
             let e : Entry (Option T) = found.0 in
             let here : e.number < 16 = (let is = found.3 in omega arith) in
             let full = found.1.full here in (
@@ -92,10 +92,10 @@ module _ {T : Type 0} where
             ));
         empty = λ number from small. values (place_of host number) None (rule.free host number near from small);
         placed = recursion_from_All (λ (e : Entry T). e.host ≡ host → e.number < 16 → get_elem? xs (place_of host e.number) ≡ some (Some e.parcel)) entries
-            (All-weaker (λ (e : Entry T). IsSettled size.hosts s.homes (filed e)) (λ (e : Entry T). e.host ≡ host → e.number < 16 → get_elem? xs (place_of host e.number) ≡ some (Some e.parcel))
+            (All-weaker (λ (e : Entry T). IsEntered size.hosts s.homes (filed e)) (λ (e : Entry T). e.host ≡ host → e.number < 16 → get_elem? xs (place_of host e.number) ≡ some (Some e.parcel))
             (λ e p of_host small. values (place_of host e.number) (Some e.parcel)
             (sym (ap (λ (k : ℕ). get_elem? s.homes (place_of k e.number)) of_host) ∙ p.placed small ∙ ap (λ (y : Option T). some (some y)) (kept_parcel e.number e.parcel small)))
-            entries (All-from_recursion (λ (e : Entry T). IsSettled size.hosts s.homes (filed e)) entries (each_map (IsSettled size.hosts s.homes) filed entries mine.settled)));
+            entries (All-from_recursion (λ (e : Entry T). IsEntered size.hosts s.homes (filed e)) entries (each_map (IsEntered size.hosts s.homes) filed entries mine.entered)));
       }
 
   -- the places of boards whose seats are joined into one
@@ -104,8 +104,8 @@ module _ {T : Type 0} where
       let s : State (Option T) (Known T) = final.0 in
       let mine = final.1.0.each id (known size.seats (map filed entries) []) final.1.1 in
       record {
-        hosts_of = recursion_from_All (λ (e : Entry T). e.host < size.hosts) entries (All-weaker (λ (e : Entry T). IsSettled size.hosts s.homes (filed e)) (λ (e : Entry T). e.host < size.hosts) (λ e p. p.host)
-            entries (All-from_recursion (λ (e : Entry T). IsSettled size.hosts s.homes (filed e)) entries (each_map (IsSettled size.hosts s.homes) filed entries mine.settled)));
+        hosts_of = recursion_from_All (λ (e : Entry T). e.host < size.hosts) entries (All-weaker (λ (e : Entry T). IsEntered size.hosts s.homes (filed e)) (λ (e : Entry T). e.host < size.hosts) (λ e p. p.host)
+            entries (All-from_recursion (λ (e : Entry T). IsEntered size.hosts s.homes (filed e)) entries (each_map (IsEntered size.hosts s.homes) filed entries mine.entered)));
         each = λ host near. laid size s id host entries xs final.1.0 final.1.1 final.4 near;
       }
 

@@ -10,8 +10,8 @@ use Rattle.host_inbox.specs.declared.rule.Known.{Known}
 use Rattle.host_inbox.specs.declared.rule.Size.{Size}
 use Rattle.list_weights.specs.Weights.{weigh, numbers_below, only}
 use Rattle.host_inbox.specs.Entries.{place_of, claim, entry, claim_weight, entry_weight}
-use Rattle.host_inbox.specs.Inboxes.{IsSettled, IsPending, Fits, AreInboxes, known_weight}
-use Rattle.host_inbox.specs.Steps.{after_claim, after_full, after_settle}
+use Rattle.host_inbox.specs.Inboxes.{IsEntered, IsPending, Fits, AreInboxes, known_weight}
+use Rattle.host_inbox.specs.Steps.{after_claim, after_full, after_fill}
 use Rattle.list_weights.proofs.Weights.{weigh_append, weigh_below, weigh_ones, length_numbers_below}
 use Rattle.host_inbox.proofs.Weights.{weigh_times}
 use Rattle.atomic_table.proofs.Lists.{set_else}
@@ -35,7 +35,7 @@ module _ {T : Type 0} where
 
   -- a seat's claims are no more than it may make
   known_few : (hosts : ℕ) (homes : List (Place (Option T))) (host : ℕ) (v : Known T) → Fits hosts homes v → known_weight host (λ _. 1) v ≤ v.share * 4294967296
-  known_few hosts homes host v fits = let a = entries_few host v.settled in let b = claims_few host v.pending in let c = fits.few in omega arith
+  known_few hosts homes host v fits = let a = entries_few host v.entered in let b = claims_few host v.pending in let c = fits.few in omega arith
 
   -- nor are all seats'
   pub claimed_few : (size : Size) (s : State (Option T) (Known T)) (host : ℕ) → AreInboxes size s → host < size.hosts → get_or s.words host 0 ≤ 274877906944
@@ -53,20 +53,20 @@ module _ {T : Type 0} where
   claim_adds v at n host h = omega (arith, weigh_append (claim_weight host h) v.pending (claim at n ∷ []))
 
   pub full_adds : (v : Known T) (at n host : ℕ) (h : ℕ → ℕ) → known_weight host h (after_full v at n) ≡ known_weight host h v + only (at == host) (h n)
-  full_adds v at n host h = let e : Entry (Option T) = entry at n None in omega (arith, weigh_append (entry_weight host h) v.settled (e ∷ []))
+  full_adds v at n host h = let e : Entry (Option T) = entry at n None in omega (arith, weigh_append (entry_weight host h) v.entered (e ∷ []))
 
   filled_weight : (x : Option T) (host : ℕ) (h : ℕ → ℕ) (xs : List Claim) → weigh (entry_weight host h) (map (λ (c : Claim). entry c.host c.number x) xs) ≡ weigh (claim_weight host h) xs
   filled_weight x host h [] = refl
   filled_weight x host h (c ∷ xs) = ap (λ (n : ℕ). only (c.host == host) (h c.number) + n) (filled_weight x host h xs)
 
-  pub settle_adds : (v : Known T) (x : Option T) (host : ℕ) (h : ℕ → ℕ) → known_weight host h (after_settle v x) ≡ known_weight host h v
-  settle_adds v x host h = let m : List (Entry (Option T)) = map (λ (c : Claim). entry c.host c.number x) v.pending in
-      omega (arith, weigh_append (entry_weight host h) v.settled m, filled_weight x host h v.pending)
+  pub fill_adds : (v : Known T) (x : Option T) (host : ℕ) (h : ℕ → ℕ) → known_weight host h (after_fill v x) ≡ known_weight host h v
+  fill_adds v x host h = let m : List (Entry (Option T)) = map (λ (c : Claim). entry c.host c.number x) v.pending in
+      omega (arith, weigh_append (entry_weight host h) v.entered m, filled_weight x host h v.pending)
 
   -- what a seat knows stays so while an empty place at home is taken
   pub fits_taken : (hosts : ℕ) (homes : List (Place (Option T))) (k : ℕ) (v : Known T) → get_elem? homes k ≡ some (some None) → Fits hosts homes v → Fits hosts (set homes k none) v
   fits_taken hosts homes k v here fits = record {
-    settled = recursion_from_All (IsSettled hosts (set homes k none)) v.settled (All-weaker (IsSettled hosts homes) (IsSettled hosts (set homes k none))
+    entered = recursion_from_All (IsEntered hosts (set homes k none)) v.entered (All-weaker (IsEntered hosts homes) (IsEntered hosts (set homes k none))
         (λ e p. record {
           host = p.host;
           full = p.full;
@@ -75,7 +75,7 @@ module _ {T : Type 0} where
               let apart : place_of e.host e.number ≢ k = λ same. differs e.parcel f.0 f.1 (sym at ∙ ap (λ (j : ℕ). get_elem? homes j) same ∙ here) in
               set_else homes k (place_of e.host e.number) none apart ∙ at);
         })
-        v.settled (All-from_recursion (IsSettled hosts homes) v.settled fits.settled));
+        v.entered (All-from_recursion (IsEntered hosts homes) v.entered fits.entered));
     pending = recursion_from_All (IsPending hosts (set homes k none)) v.pending (All-weaker (IsPending hosts homes) (IsPending hosts (set homes k none))
         (λ c p. record {
           host = p.host;

@@ -14,14 +14,14 @@ use Rattle.host_inbox.specs.Entries.{inbox_places, place_of, claim_weight, entry
 
 module _ {T : Type 0} where
   abbrev pub known : ℕ → List (Entry (Option T)) → List Claim → Known T
-  known share settled pending = record { share = share; settled = settled; pending = pending }
+  known share entered pending = record { share = share; entered = entered; pending = pending }
 
   -- how much the numbers weigh that a seat claimed of a host
   abbrev pub known_weight : ℕ → (ℕ → ℕ) → Known T → ℕ
-  known_weight host h v = weigh (entry_weight host h) v.settled + weigh (claim_weight host h) v.pending
+  known_weight host h v = weigh (entry_weight host h) v.entered + weigh (claim_weight host h) v.pending
 
   -- Where the number has a place, the parcel is there.
-  pub record IsSettled (hosts : ℕ) (homes : List (Place (Option T))) (e : Entry (Option T)) : Type 0 where
+  pub record IsEntered (hosts : ℕ) (homes : List (Place (Option T))) (e : Entry (Option T)) : Type 0 where
     pub host : e.host < hosts
     pub placed : e.number < inbox_places → get_elem? homes (place_of e.host e.number) ≡ some (some e.parcel)
     pub full : e.number < inbox_places → (parcel : T) × (e.parcel ≡ Some parcel)
@@ -34,9 +34,9 @@ module _ {T : Type 0} where
 
   -- What one seat knows is so.
   pub record Fits (hosts : ℕ) (homes : List (Place (Option T))) (v : Known T) : Type 0 where
-    pub settled : AllByRecursion (IsSettled hosts homes) v.settled
+    pub entered : AllByRecursion (IsEntered hosts homes) v.entered
     pub pending : AllByRecursion (IsPending hosts homes) v.pending
-    pub few : length v.settled + length v.pending ≤ v.share * 2 ^ 32
+    pub few : length v.entered + length v.pending ≤ v.share * 2 ^ 32
 
   -- Of each host the numbers that the seats claimed are those below its first word, each once.
   -- Each place from there on is empty, and no seat has it.

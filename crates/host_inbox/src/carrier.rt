@@ -5,7 +5,7 @@ ghost use Rattle.host_inbox.specs.Inboxes.{known};
 
 use crate::entry::Claim;
 use crate::put::Put;
-use crate::steps::{PlaceSeat, Places, claim_number, settle};
+use crate::steps::{PlaceSeat, Places, claim_number, fill};
 use list_weights::Trail;
 use sim_base::Parcel;
 use std::marker::Model;
@@ -77,7 +77,7 @@ impl<T> Carrier<T> {
         let number = claim_number(places, &mut self.seat, host);
         self.trail.then(Put::new(host, number, &parcel));
         if number < 16 {
-            settle(
+            fill(
                 places,
                 &mut self.seat,
                 hosts,

@@ -8,7 +8,7 @@ use std::collections::LinkedList;
 /// No value of it is made.
 pub struct Known<T> {
     pub share: u64,
-    pub settled: LinkedList<Entry<Option<T>>>,
+    pub entered: LinkedList<Entry<Option<T>>>,
     pub pending: LinkedList<Claim>,
 }
 
@@ -41,12 +41,12 @@ impl<T> Play<Option<T>, Known<T>> for Claims {
 }
 
 /// The place of the claim went back with what was laid into it.
-pub struct Settles;
+pub struct Fills;
 
-impl<T> Play<Option<T>, Known<T>> for Settles {
-    ghost use Rattle.host_inbox.specs.Steps.{Settled};
+impl<T> Play<Option<T>, Known<T>> for Fills {
+    ghost use Rattle.host_inbox.specs.Steps.{Filled};
 
-    ghost then = { Settled };
+    ghost then = { Filled };
 }
 
 /// One seat of those that a seat stands for, or all that another one stands for.

@@ -1,10 +1,10 @@
 //! The two steps of a put.
 ghost use Rattle.std.specs.Prelude.{◌≡◌, ◌+◌, ◌*◌, ◌^◌, ◌<◌, ◌≤◌, [], ◌∷◌, length};
 ghost use Rattle.host_inbox.specs.Entries.{inbox_places, claim, place_of};
-ghost use Rattle.host_inbox.specs.Steps.{after_claim, after_full, after_settle};
+ghost use Rattle.host_inbox.specs.Steps.{after_claim, after_full, after_fill};
 
 use crate::entry::Claim;
-use crate::rule::{Claims, Inboxes, Known, Settles, Size};
+use crate::rule::{Claims, Fills, Inboxes, Known, Size};
 use atomic_table::{Seat, Shared};
 
 /// The words and places of boards.
@@ -19,7 +19,7 @@ pub fn claim_number<T>(places: &Places<T>, seat: &mut PlaceSeat<T>, host: u32) -
     requires host { host < places.now.key.hosts }
     requires word { host < places.now.table_id.words }
     requires empty { seat.old.me.1 ≡ [] }
-    requires few { length seat.old.me.0.settled + length seat.old.me.0.pending < seat.old.me.0.share * 2 ^ 32 }
+    requires few { length seat.old.me.0.entered + length seat.old.me.0.pending < seat.old.me.0.share * 2 ^ 32 }
     ensures table { seat.new.table_id ≡ seat.old.table_id }
     ensures placed { result < inbox_places → seat.new.me ≡ (after_claim seat.old.me.0 host result, (place_of host result, None) ∷ []) }
     ensures full { inbox_places ≤ result → seat.new.me ≡ (after_full seat.old.me.0 host result, []) }
@@ -41,7 +41,7 @@ fn lay<T>(places: &Places<T>, seat: &mut PlaceSeat<T>, place: usize, parcel: T)
 }
 
 /// Lays the parcel into the place of the claim, and gives the place back.
-pub fn settle<T>(places: &Places<T>, seat: &mut PlaceSeat<T>, hosts: u32, to: Claim, parcel: T)
+pub fn fill<T>(places: &Places<T>, seat: &mut PlaceSeat<T>, hosts: u32, to: Claim, parcel: T)
     requires table { seat.old.table_id ≡ places.now.table_id }
     requires hosts { hosts ≡ places.now.key.hosts }
     requires words { hosts + hosts ≡ places.now.table_id.words }
@@ -49,9 +49,9 @@ pub fn settle<T>(places: &Places<T>, seat: &mut PlaceSeat<T>, hosts: u32, to: Cl
     requires pending { seat.old.me.0.pending ≡ to ∷ [] }
     requires place { seat.old.me.1 ≡ (place_of to.host to.number, None) ∷ [] }
     ensures table { seat.new.table_id ≡ seat.old.table_id }
-    ensures settled { seat.new.me ≡ (after_settle seat.old.me.0 (Some parcel), []) }
+    ensures filled { seat.new.me ≡ (after_fill seat.old.me.0 (Some parcel), []) }
 {
     let place = to.host as usize * 16 + to.number as usize;
     lay(places, seat, place, parcel);
-    places.fetch_add::<Settles>(seat, hosts as usize + to.host as usize, 1);
+    places.fetch_add::<Fills>(seat, hosts as usize + to.host as usize, 1);
 }

@@ -12,8 +12,8 @@ abbrev pub begins_token : Bool → List ℕ → Bool
 begins_token fresh [] = true
 begins_token fresh (b ∷ rest) = not (is_blank b rest || (is_line_feed b || (is_hash b && fresh)))
 
-abbrev pub is_settled : Scanner → Bool
-is_settled s = begins_token s.fresh s.rest.now
+abbrev pub is_at_token : Scanner → Bool
+is_at_token s = begins_token s.fresh s.rest.now
 
 -- whether a word stands at the front
 abbrev pub begins_word : Bool → List ℕ → Bool
