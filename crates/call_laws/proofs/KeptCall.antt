@@ -38,7 +38,7 @@ use Rattle.host_calls.specs.Sockets.{socket, bind, listen, accept_plan, accepts,
 use Rattle.call_parts.specs.Sockets.{open_socket, socket_number}
 use Rattle.call_laws.proofs.Waits.{Never, reaction_waits, is_wait_is, nevers, reacts_is, plainly_is, asked_then, gives_bind, gives_then, gives_map}
 use Rattle.call_laws.proofs.PlainWaits.{plain_never}
-use Rattle.call_laws.proofs.SocketWaits.{accept_settles, connect_settles, send_settles, recv_settles}
+use Rattle.call_laws.proofs.SocketWaits.{accept_never_waits, connect_never_waits, send_never_waits, recv_never_waits}
 use Rattle.call_laws.proofs.SocketNevers.{socket_never, bind_never, listen_never, getsockname_never, getpeername_never, getsockopt_never, shutdown_never}
 
 -- calls on sockets that never wait
@@ -58,57 +58,57 @@ network_never known now network.Getsockopt args s =
 network_never known now network.Shutdown args s = reacts_is (shutdown now (arg args 0) (arg args 1) s) ∙ shutdown_never now (arg args 0) (arg args 1) s
 
 -- what is done after a call was asked doesn't wait
-abbrev Settles : Known → Time → ℕ → Scene → Plan → Type 0
-Settles known now process s p = reaction_waits (done known now process p s) ≡ false
+abbrev NeverWaits : Known → Time → ℕ → Scene → Plan → Type 0
+NeverWaits known now process s p = reaction_waits (done known now process p s) ≡ false
 
-read_plan_of_settles : (known : Known) (now : Time) (process : ℕ) (d : Descriptor) (n : Result SocketNumber Refusal) (at count : ℕ) (s : Scene)
-    → IfOk (read_plan_of now d n at count s) (Settles known now process s)
-read_plan_of_settles known now process d (Ok socket) at count s =
-    gives_map (recv_plan (open_by d socket) 0 (room_of at count 0 0) s.task.memory s.sockets) (λ r. plan.Receive r) _ _ (recv_settles now (open_by d socket) 0 (room_of at count 0 0) s)
+read_plan_of_never_waits : (known : Known) (now : Time) (process : ℕ) (d : Descriptor) (n : Result SocketNumber Refusal) (at count : ℕ) (s : Scene)
+    → IfOk (read_plan_of now d n at count s) (NeverWaits known now process s)
+read_plan_of_never_waits known now process d (Ok socket) at count s =
+    gives_map (recv_plan (open_by d socket) 0 (room_of at count 0 0) s.task.memory s.sockets) (λ r. plan.Receive r) _ _ (recv_never_waits now (open_by d socket) 0 (room_of at count 0 0) s)
     (λ r h. reacts_is (receives now r s) ∙ h)
-read_plan_of_settles known now process d (Err e) at count s =
+read_plan_of_never_waits known now process d (Err e) at count s =
     gives_bind (file_read_plan now d at count (local_of s)) _ _
     (λ t e. reacts_is (plainly (reads known.hosts now t (local_of s)) s) ∙ plainly_is (reads known.hosts now t (local_of s)) s)
 
 writes_never : (process : ℕ) (t : Transfer) (s : Scene) → Never (writes process t (local_of s))
 writes_never process t s = search nevers
 
-write_plan_of_settles : (known : Known) (now : Time) (process : ℕ) (d : Descriptor) (n : Result SocketNumber Refusal) (at count : ℕ) (s : Scene)
-    → IfOk (write_plan_of known d n at count s) (Settles known now process s)
-write_plan_of_settles known now process d (Ok socket) at count s =
+write_plan_of_never_waits : (known : Known) (now : Time) (process : ℕ) (d : Descriptor) (n : Result SocketNumber Refusal) (at count : ℕ) (s : Scene)
+    → IfOk (write_plan_of known d n at count s) (NeverWaits known now process s)
+write_plan_of_never_waits known now process d (Ok socket) at count s =
     gives_map (send_plan known.book (open_by d socket) 0 (message_of at count 0 0) s.task.memory s.sockets) (λ m. plan.Send m) _ _
-    (send_settles known.book now (open_by d socket) 0 (message_of at count 0 0) s) (λ m h. reacts_is (sends_by known.book now m s) ∙ h)
-write_plan_of_settles known now process d (Err e) at count s =
+    (send_never_waits known.book now (open_by d socket) 0 (message_of at count 0 0) s) (λ m h. reacts_is (sends_by known.book now m s) ∙ h)
+write_plan_of_never_waits known now process d (Err e) at count s =
     gives_bind (file_write_plan d at count (local_of s)) _ _
     (λ t e. reacts_is (plainly (writes process t (local_of s)) s) ∙ plainly_is (writes process t (local_of s)) s ∙ writes_never process t s)
 
 polls_never : (now : Time) (p : PollPlan) (s : Scene) → Never (polls now p s)
 polls_never now p s = search nevers
 
-asked_settles : (known : Known) (now : Time) (process : ℕ) (w : WaitingCall) (args : List ℕ) (s : Scene) (why : Why) → s.task.kept ≡ Some why
-    → IfOk (asked known now w args s) (Settles known now process s)
-asked_settles known now process waiting.Read args s why e =
-    gives_bind (descriptor (arg args 0) s.task s.shared.files) _ _ (λ d f. read_plan_of_settles known now process d (socket_number d.file.object) (arg args 1) (arg args 2) s)
-asked_settles known now process waiting.Write args s why e =
-    gives_bind (descriptor (arg args 0) s.task s.shared.files) _ _ (λ d f. write_plan_of_settles known now process d (socket_number d.file.object) (arg args 1) (arg args 2) s)
-asked_settles known now process waiting.Accept args s why e =
-    gives_map (accept_plan (arg args 0) (arg args 1) (arg args 2) s) (λ a. plan.Accept a) _ _ (accept_settles (arg args 0) (arg args 1) (arg args 2) s)
+asked_never_waits : (known : Known) (now : Time) (process : ℕ) (w : WaitingCall) (args : List ℕ) (s : Scene) (why : Why) → s.task.kept ≡ Some why
+    → IfOk (asked known now w args s) (NeverWaits known now process s)
+asked_never_waits known now process waiting.Read args s why e =
+    gives_bind (descriptor (arg args 0) s.task s.shared.files) _ _ (λ d f. read_plan_of_never_waits known now process d (socket_number d.file.object) (arg args 1) (arg args 2) s)
+asked_never_waits known now process waiting.Write args s why e =
+    gives_bind (descriptor (arg args 0) s.task s.shared.files) _ _ (λ d f. write_plan_of_never_waits known now process d (socket_number d.file.object) (arg args 1) (arg args 2) s)
+asked_never_waits known now process waiting.Accept args s why e =
+    gives_map (accept_plan (arg args 0) (arg args 1) (arg args 2) s) (λ a. plan.Accept a) _ _ (accept_never_waits (arg args 0) (arg args 1) (arg args 2) s)
     (λ a h. reacts_is (accepts a s) ∙ h)
-asked_settles known now process waiting.Connect args s why e =
+asked_never_waits known now process waiting.Connect args s why e =
     gives_map (connect_plan (arg args 0) (arg args 1) (arg args 2) s) (λ c. plan.Connect c) _ _
-    (connect_settles known.book now (arg args 0) (arg args 1) (arg args 2) s why e) (λ c h. h)
-asked_settles known now process waiting.Sendto args s why e =
+    (connect_never_waits known.book now (arg args 0) (arg args 1) (arg args 2) s why e) (λ c h. h)
+asked_never_waits known now process waiting.Sendto args s why e =
     gives_map (sendto_plan known.book (arg args 0) (arg args 3) (message_of (arg args 1) (arg args 2) (arg args 4) (arg args 5)) s) (λ m. plan.Send m) _ _
-    (gives_bind (open_socket (arg args 0) (local_of s)) _ _ (λ socket f. send_settles known.book now socket (arg args 3) (message_of (arg args 1) (arg args 2) (arg args 4) (arg args 5)) s))
+    (gives_bind (open_socket (arg args 0) (local_of s)) _ _ (λ socket f. send_never_waits known.book now socket (arg args 3) (message_of (arg args 1) (arg args 2) (arg args 4) (arg args 5)) s))
     (λ m h. reacts_is (sends_by known.book now m s) ∙ h)
-asked_settles known now process waiting.Recvfrom args s why e =
+asked_never_waits known now process waiting.Recvfrom args s why e =
     gives_map (recvfrom_plan (arg args 0) (arg args 3) (room_of (arg args 1) (arg args 2) (arg args 4) (arg args 5)) s) (λ r. plan.Receive r) _ _
-    (gives_bind (open_socket (arg args 0) (local_of s)) _ _ (λ socket f. recv_settles now socket (arg args 3) (room_of (arg args 1) (arg args 2) (arg args 4) (arg args 5)) s))
+    (gives_bind (open_socket (arg args 0) (local_of s)) _ _ (λ socket f. recv_never_waits now socket (arg args 3) (room_of (arg args 1) (arg args 2) (arg args 4) (arg args 5)) s))
     (λ r h. reacts_is (receives now r s) ∙ h)
-asked_settles known now process waiting.ClockNanosleep args s why e = gives_then (sleep_asked now (arg args 0) (arg args 1) (arg args 2) s.task) _ _ (λ u f. refl)
-asked_settles known now process waiting.Ppoll args s why e =
+asked_never_waits known now process waiting.ClockNanosleep args s why e = gives_then (sleep_asked now (arg args 0) (arg args 1) (arg args 2) s.task) _ _ (λ u f. refl)
+asked_never_waits known now process waiting.Ppoll args s why e =
     gives_bind (poll_plan now (arg args 0) (arg args 1) (arg args 2) s) _ _ (λ p f. reacts_is (polls now p s) ∙ polls_never now p s)
-asked_settles known now process waiting.EpollWait args s why e =
+asked_never_waits known now process waiting.EpollWait args s why e =
     gives_bind (wait_plan now (arg args 0) (arg args 1) (arg args 2) (arg args 3) s) _ _ (λ p f. refl)
 
 close_never : (now : Time) (fd : ℕ) (s : Scene) → Never (close now fd s)
@@ -122,7 +122,7 @@ row-same known now process (Some (system_call.Plain p)) args s why e =
     ∙ plain_never now process p args s.task s.shared
 row-same known now process (Some (system_call.Network n)) args s why e = network_never known now n args s
 row-same known now process (Some (system_call.Waiting w)) args s why e =
-    asked_then (asked known now w args s) _ (asked_settles known now process w args s why e) ∙ sym (is_wait_is (asked known now w args s))
+    asked_then (asked known now w args s) _ (asked_never_waits known now process w args s why e) ∙ sym (is_wait_is (asked known now w args s))
 row-same known now process (Some system_call.Close) args s why e = reacts_is (close now (arg args 0) s) ∙ close_never now (arg args 0) s
 row-same known now process (Some system_call.Exit) args s why e = refl
 

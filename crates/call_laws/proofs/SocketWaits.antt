@@ -110,8 +110,8 @@ accepts_same : (k : ℕ) (t : SocketsRecord) → Same (accepts_tcp k t) (accept_
 unfolding accepts_tcp
 accepts_same k t = same_then (accept_asked k t) _ _ (ends_bind (or_refuse (accepts_at k t) (refusal.Wait None)) _ (λ a. refl) ∙ or_wait_is (accepts_at k t))
 
-pub accept_settles : (fd at size_at : ℕ) (s : Scene) → IfOk (accept_plan fd at size_at s) (λ a. Never (accepts a s))
-accept_settles fd at size_at s =
+pub accept_never_waits : (fd at size_at : ℕ) (s : Scene) → IfOk (accept_plan fd at size_at s) (λ a. Never (accepts a s))
+accept_never_waits fd at size_at s =
     gives_bind (open_socket fd (local_of s)) _ _ (λ socket e. gives_bind (tcp_number socket.number) _ _ (λ k f. gives_bind (accept_place k at size_at s.task s.sockets) _ _
     (λ new g. gives_then (or_again socket.nonblocking (accept_ready k s.sockets)) _ _
     (λ u h. ends_bind (accepts_tcp k s.sockets) _ (λ a. refl) ∙ accepts_same k s.sockets ∙ ok_never socket.nonblocking (accept_ready k s.sockets) u h))))
@@ -137,17 +137,17 @@ ready_branch : (o : Option Why) (why : Why) (r : Result (Unit {0}) Refusal) (u :
 ready_branch None why r u e h = cc
 ready_branch (Some first) why r u e h = kept_never r u h
 
-connect_call_settles : (hosts : List Ip) (now : Time) (nonblocking : Bool) (n : SocketNumber) (at size : ℕ) (s : Scene) (why : Why) (u : Unit {0}) → s.task.kept ≡ Some why
+connect_call_never_waits : (hosts : List Ip) (now : Time) (nonblocking : Bool) (n : SocketNumber) (at size : ℕ) (s : Scene) (why : Why) (u : Unit {0}) → s.task.kept ≡ Some why
     → connect_ready n s ≡ Ok u → reaction_waits (connect_call hosts now nonblocking n at size s) ≡ false
-connect_call_settles hosts now nonblocking (number.Udp k) at size s why u e ready = connect_udp_never hosts k at size s
-connect_call_settles hosts now nonblocking (number.Tcp k) at size s why u e ready =
+connect_call_never_waits hosts now nonblocking (number.Udp k) at size s why u e ready = connect_udp_never hosts k at size s
+connect_call_never_waits hosts now nonblocking (number.Tcp k) at size s why u e ready =
     kept_branch s.task.kept why _ _ e ∙ connect_again_same now k s ∙ ready_branch s.task.kept why (connect_waited k s.sockets) u e ready
 
-pub connect_settles : (hosts : List Ip) (now : Time) (fd at size : ℕ) (s : Scene) (why : Why) → s.task.kept ≡ Some why
+pub connect_never_waits : (hosts : List Ip) (now : Time) (fd at size : ℕ) (s : Scene) (why : Why) → s.task.kept ≡ Some why
     → IfOk (connect_plan fd at size s) (λ c. reaction_waits (connects hosts now c s) ≡ false)
-connect_settles hosts now fd at size s why e =
+connect_never_waits hosts now fd at size s why e =
     gives_bind (open_socket fd (local_of s)) _ _ (λ socket f. gives_then (connect_ready socket.number s) _ _
-    (λ u ready. connect_call_settles hosts now socket.nonblocking socket.number at size s why u e ready))
+    (λ u ready. connect_call_never_waits hosts now socket.nonblocking socket.number at size s why u e ready))
 
 -- a span of so many bytes has so many
 with_first_length : (b : Option ℕ) (o : Option (List ℕ)) (k : ℕ) → ((bytes : List ℕ) → o ≡ Some bytes → length bytes ≡ k) → (bytes : List ℕ) → with_first b o ≡ Some bytes → length bytes ≡ suc k
@@ -173,19 +173,19 @@ send_tcp_never hosts now d s h =
     ∙ sends_same hosts now d.place bytes d.to d.quiet s.sockets s.shared.outlet
     ∙ ap (λ (count : ℕ). waits_in (send_asked hosts d.place count d.to d.quiet s.sockets)) (read_length Read (counted d.n) s.task.memory d.at bytes is) ∙ h)
 
-send_plan_of_settles : (hosts : List Ip) (now : Time) (n : SocketNumber) (nonblocking quiet : Bool) (message : Message) (s : Scene)
+send_plan_of_never_waits : (hosts : List Ip) (now : Time) (n : SocketNumber) (nonblocking quiet : Bool) (message : Message) (s : Scene)
     → IfOk (send_plan_of hosts n nonblocking quiet message s.task.memory s.sockets) (λ m. Never (sends_by hosts now m s))
-send_plan_of_settles hosts now (number.Udp k) nonblocking quiet message s = send_udp_never hosts k message s
-send_plan_of_settles hosts now (number.Tcp k) nonblocking quiet message s =
+send_plan_of_never_waits hosts now (number.Udp k) nonblocking quiet message s = send_udp_never hosts k message s
+send_plan_of_never_waits hosts now (number.Tcp k) nonblocking quiet message s =
     gives_then (refuse_if (not (can_read (counted message.n) message.at s.task.memory)) (refusal.Errno Efault)) _ _
     (λ u e. gives_bind (given_address message.to_at message.size s.task.memory) _ _ (λ to f.
     gives_then (or_again nonblocking (kept_answers (send_asked hosts k (counted message.n) to quiet s.sockets))) _ _
     (λ v g. send_tcp_never hosts now _ s (again_kept_never nonblocking (send_asked hosts k (counted message.n) to quiet s.sockets) v g))))
 
-pub send_settles : (hosts : List Ip) (now : Time) (socket : OpenSocket) (flags : ℕ) (message : Message) (s : Scene)
+pub send_never_waits : (hosts : List Ip) (now : Time) (socket : OpenSocket) (flags : ℕ) (message : Message) (s : Scene)
     → IfOk (send_plan hosts socket flags message s.task.memory s.sockets) (λ m. Never (sends_by hosts now m s))
-send_settles hosts now socket flags message s =
-    gives_then (refuse_flags flags) _ _ (λ u e. send_plan_of_settles hosts now socket.number (is_quick socket.nonblocking flags) (has msg_nosignal flags) message s)
+send_never_waits hosts now socket flags message s =
+    gives_then (refuse_flags flags) _ _ (λ u e. send_plan_of_never_waits hosts now socket.number (is_quick socket.nonblocking flags) (has msg_nosignal flags) message s)
 
 -- recv(2)
 is_positive : (n : ℕ) → false ≡ not (nat_lt 0 (suc n))
@@ -212,8 +212,8 @@ recv_by_never now b (number.Tcp k) at count place s u h =
     ends_bind (receives_taking now k (counted count) s.sockets s.shared.outlet) _ (λ a. refl) ∙ receives_same now k (counted count) s.sockets s.shared.outlet
     ∙ again_kept_never b (recv_asked k s.sockets) u h
 
-pub recv_settles : (now : Time) (socket : OpenSocket) (flags : ℕ) (room : Room) (s : Scene) → IfOk (recv_plan socket flags room s.task.memory s.sockets) (λ r. Never (receives now r s))
-recv_settles now socket flags room s =
+pub recv_never_waits : (now : Time) (socket : OpenSocket) (flags : ℕ) (room : Room) (s : Scene) → IfOk (recv_plan socket flags room s.task.memory s.sockets) (λ r. Never (receives now r s))
+recv_never_waits now socket flags room s =
     gives_then (refuse_flags flags) _ _ (λ u e. gives_bind (recv_place room s.task.memory) _ _ (λ place f.
     gives_then (or_again (is_quick socket.nonblocking flags) (recv_ready socket.number s.sockets)) _ _
     (λ v g. recv_by_never now (is_quick socket.nonblocking flags) socket.number room.at room.n place s v g)))

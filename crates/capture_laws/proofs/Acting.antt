@@ -33,7 +33,7 @@ use Rattle.host_state.specs.Step.{Step}
 use Rattle.host_state.specs.Step as step
 use Rattle.host_state.specs.Arriving.{is_handed_over, are_handed_over, goes_in, comes_to_router, comes_in, down_comes}
 use Rattle.host_state.specs.Fire.{begins, starts, ready, running_in, is_not_started, kept_by, runs_on, goes_if, goes, is_shut, shutdown_signal, shuts_if, shuts, rings, acts, wakes_if, would_answer, wakes_in, wakes, wakes_from, wakes_all, at_time, has_acted, fire}
-use Rattle.host_state.specs.Host.{with_link, with_parts, on_wire, wire_of, settles}
+use Rattle.host_state.specs.Host.{with_link, with_parts, on_wire, wire_of, does_wanted}
 use Rattle.host_link.specs.Wants.{does_wants}
 use Rattle.host_state.specs.HostRecord.{HostRecord}
 use Rattle.host_link.specs.Lanes.{with_down}
@@ -48,9 +48,9 @@ module _ (now : Time) (net : Net) where
   abbrev H : HostRecord → Type 0
   H h = Keeps now h.link
 
-  settling : (h : HostRecord) → H h → H (settles net h)
-  unfolding settles does_wants
-  settling h k =
+  doing_wanted : (h : HostRecord) → H h → H (does_wanted net h)
+  unfolding does_wanted does_wants
+  doing_wanted h k =
       wants_keep now net h.row.address h.parts.shared.outlet.wants (h.link, without_wants h.parts.shared.outlet) k
 
   -- ---- packets
@@ -59,7 +59,7 @@ module _ (now : Time) (net : Net) where
   unfolding is_handed_over
   handed packet h small k =
       let r = arrives h.link.time packet h.parts in
-      settling (with_parts r.1 (with_link (logs r.0 packet h.link) h)) (logs_keep now h.link r.0 packet small k)
+      doing_wanted (with_parts r.1 (with_link (logs r.0 packet h.link) h)) (logs_keep now h.link r.0 packet small k)
 
   all_handed : (packets : List Packet) (h : HostRecord) → AllSmall packets → H h → H (are_handed_over net packets h)
   unfolding are_handed_over
@@ -110,11 +110,11 @@ module _ (now : Time) (net : Net) where
   calling : (p number : ℕ) (arguments : List ℕ) (cpu : Cpu) (h : HostRecord) → H h → S (calls net p number arguments cpu h)
   unfolding calls
   calling p number arguments cpu h k =
-      by_if S (has_task p h.parts) _ _ (λ e. settling (with_parts (call net.known h.link.time p number arguments h.parts).1 h) k) (λ e. k)
+      by_if S (has_task p h.parts) _ _ (λ e. doing_wanted (with_parts (call net.known h.link.time p number arguments h.parts).1 h) k) (λ e. k)
 
   closing : (p : ℕ) (h : HostRecord) → H h → H (closes net p h)
   unfolding closes
-  closing p h k = by_if H (has_task p h.parts) _ _ (λ e. settling (with_parts (ended h.link.time p h.parts) h) k) (λ e. k)
+  closing p h k = by_if H (has_task p h.parts) _ _ (λ e. doing_wanted (with_parts (ended h.link.time p h.parts) h) k) (λ e. k)
 
   killing : (p : ℕ) (signal : Signal) (h : HostRecord) → H h → S (is_killed net p signal h)
   unfolding is_killed
@@ -194,7 +194,7 @@ module _ (now : Time) (net : Net) where
 
   ringing : (target : AlarmTarget) (serial : ℕ) (h : HostRecord) → H h → H (rings net target serial h)
   unfolding rings
-  ringing target serial h k = settling (with_parts (alarmed h.link.time target serial h.parts) h) k
+  ringing target serial h k = doing_wanted (with_parts (alarmed h.link.time target serial h.parts) h) k
 
   acting : (w : What) (h : HostRecord) → FitsLoop w → H h → H (acts net w h)
   unfolding acts

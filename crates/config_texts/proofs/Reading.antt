@@ -12,7 +12,7 @@ use Rattle.config_texts.specs.Texts.{AreUtf8, HasTexts, HostIsText, ProcessIsTex
 use Rattle.shd_config.proofs.Walks.{below_has, checked_has, kept_or_read, needed_has, optional_has, valued_has}
 use Rattle.shd_config.specs.Config.{config, experimental_at, general_or, is_passed_over, kept, merged_config, new_root, root, root_key, root_of, root_row, wrong_merge}
 use Rattle.shd_config.specs.General.{general_at}
-use Rattle.shd_config.specs.Host.{host_at, host_key, host_of, host_row, hosts_at, hosts_row, new_host, options_at, settled}
+use Rattle.shd_config.specs.Host.{host_at, host_key, host_of, host_row, hosts_at, hosts_row, new_host, options_at, completed}
 use Rattle.shd_config.specs.Keys.{key_of}
 use Rattle.shd_config.specs.Network.{network_at}
 use Rattle.shd_config.specs.Process.{argument_row, arguments_at, arguments_in, environment_at, finished_process, new_process, process_at, process_in, process_item, process_key, process_of, process_row, processes_at, shutdown_at, start_in, state_at, texts_size, variable_row}
@@ -231,9 +231,9 @@ hosts_text p h =
 abbrev RootIsText : RootDraft → Type 0
 RootIsText d = IfSome d.hosts AreHosts
 
-settled_text : (all : HostOptions) (hosts : List HostRead) → AreHosts hosts → AllByRecursion HostIsText (map (settled all) hosts)
-settled_text all [] h = tt
-settled_text all (x ∷ hosts) h = (h.0, settled_text all hosts h.1)
+completed_text : (all : HostOptions) (hosts : List HostRead) → AreHosts hosts → AllByRecursion HostIsText (map (completed all) hosts)
+completed_text all [] h = tt
+completed_text all (x ∷ hosts) h = (h.0, completed_text all hosts h.1)
 
 module _ (o : Overrides) where
   root_key_text : (key : Option Key) (d : RootDraft) (p : Pair) → RootIsText d → SaidIsText p.value → IfOk (root_key o key d p) RootIsText
@@ -252,7 +252,7 @@ module _ (o : Overrides) where
       (λ d h. then_all HasTexts (general_or o (mapping_line line (kept pairs)) d.general) _
       (λ general. then_all HasTexts (needed (codes "network") (mapping_line line (kept pairs)) d.network) _
       (λ network. then_has AreHosts HasTexts (needed (codes "hosts") (mapping_line line (kept pairs)) d.hosts) _ (needed_has AreHosts (codes "hosts") (mapping_line line (kept pairs)) d.hosts h)
-      (λ hosts k. settled_text d.options hosts k))))
+      (λ hosts k. completed_text d.options hosts k))))
 
   merged_config_text : (empty : Bool) (tree : Said) → SaidIsText tree → IfOk (merged_config o empty tree) HasTexts
   merged_config_text true tree h = root_text 1 [] tt

@@ -31,7 +31,7 @@ use Rattle.host_state.specs.Step.{Step}
 use Rattle.host_state.specs.Step as step
 use Rattle.host_state.specs.Arriving.{is_handed_over, are_handed_over, goes_in, comes_to_router, comes_in, down_comes}
 use Rattle.host_state.specs.Fire.{begins, starts, ready, running_in, is_not_started, kept_by, runs_on, goes_if, goes, is_shut, shutdown_signal, shuts_if, shuts, rings, acts}
-use Rattle.host_state.specs.Host.{with_link, with_parts, on_wire, wire_of, settles}
+use Rattle.host_state.specs.Host.{with_link, with_parts, on_wire, wire_of, does_wanted}
 use Rattle.host_link.specs.Wants.{does_wants}
 use Rattle.host_state.specs.HostRecord.{HostRecord}
 use Rattle.host_link.specs.Lanes.{with_down}
@@ -46,9 +46,9 @@ module _ (net : Net) where
   linked : (h : HostRecord) (m : LinkState) → IsLater h.link m → IsQuiet h (with_link m h)
   linked h m later = record { processes = refl; link = later }
 
-  settling : (h : HostRecord) → IsQuiet h (settles net h)
-  unfolding settles does_wants
-  settling h = record {
+  doing_wanted : (h : HostRecord) → IsQuiet h (does_wanted net h)
+  unfolding does_wanted does_wants
+  doing_wanted h = record {
     processes = refl;
     link = wants_later net h.row.address h.parts.shared.outlet.wants (h.link, without_wants h.parts.shared.outlet);
   }
@@ -60,7 +60,7 @@ module _ (net : Net) where
   handed packet h =
       let r = arrives h.link.time packet h.parts in
       let m : LinkState = logs r.0 packet h.link in
-      quiet_on h (with_parts r.1 (with_link m h)) (settles net (with_parts r.1 (with_link m h))) (linked h m (logs_later h.link r.0 packet)) (settling (with_parts r.1 (with_link m h)))
+      quiet_on h (with_parts r.1 (with_link m h)) (does_wanted net (with_parts r.1 (with_link m h))) (linked h m (logs_later h.link r.0 packet)) (doing_wanted (with_parts r.1 (with_link m h)))
 
   all_handed : (packets : List Packet) (h : HostRecord) → IsQuiet h (are_handed_over net packets h)
   unfolding are_handed_over
@@ -111,11 +111,11 @@ module _ (net : Net) where
   calling : (p number : ℕ) (arguments : List ℕ) (cpu : Cpu) (h : HostRecord) → S h (calls net p number arguments cpu h)
   unfolding calls
   calling p number arguments cpu h =
-      by_if (S h) (has_task p h.parts) _ _ (λ e. settling (with_parts (call net.known h.link.time p number arguments h.parts).1 h)) (λ e. still h)
+      by_if (S h) (has_task p h.parts) _ _ (λ e. doing_wanted (with_parts (call net.known h.link.time p number arguments h.parts).1 h)) (λ e. still h)
 
   closing : (p : ℕ) (h : HostRecord) → IsQuiet h (closes net p h)
   unfolding closes
-  closing p h = by_if (IsQuiet h) (has_task p h.parts) _ _ (λ e. settling (with_parts (ended h.link.time p h.parts) h)) (λ e. still h)
+  closing p h = by_if (IsQuiet h) (has_task p h.parts) _ _ (λ e. doing_wanted (with_parts (ended h.link.time p h.parts) h)) (λ e. still h)
 
   killing : (p : ℕ) (signal : Signal) (h : HostRecord) → S h (is_killed net p signal h)
   unfolding is_killed
@@ -193,7 +193,7 @@ module _ (net : Net) where
 
   ringing : (target : AlarmTarget) (serial : ℕ) (h : HostRecord) → IsQuiet h (rings net target serial h)
   unfolding rings
-  ringing target serial h = settling (with_parts (alarmed h.link.time target serial h.parts) h)
+  ringing target serial h = doing_wanted (with_parts (alarmed h.link.time target serial h.parts) h)
 
   pub acting : (w : What) (h : HostRecord) → PassesTo h (acts net w h)
   unfolding acts

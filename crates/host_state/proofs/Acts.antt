@@ -25,7 +25,7 @@ use Rattle.host_state.specs.HostRecord.{HostRecord}
 use Rattle.host_link.specs.Link.{LinkState, logs}
 use Rattle.host_link.specs.Lanes.{pushes_down, releases_down, Releases}
 use Rattle.host_link.specs.Sending.{Wire, IsWire, is_bootstrapping, drop_all, makes_if}
-use Rattle.host_state.specs.Host.{with_link, with_parts, on_wire, settles}
+use Rattle.host_state.specs.Host.{with_link, with_parts, on_wire, does_wanted}
 use Rattle.host_link.specs.Wants.{does_wants}
 use Rattle.host_state.specs.Arriving.{is_handed_over, are_handed_over, went_in, goes_in, comes_to_router, comes_in, down_comes}
 use Rattle.host_state.specs.Fire.{rings}
@@ -47,11 +47,11 @@ wired act c link outlet e =
       parts = record { tasks = refl; shared = ap (λ (o : Wanted). record c.parts.shared { outlet = o }) e.1; sockets = s };
     })
 
-pub settled : (net : Net) (c : Body) (link : LinkState) (outlet : Wanted)
-    → IsWire link outlet (does_wants net c.row.address (c.link, c.parts.shared.outlet)) → Does (settles net) c (after_wire c link outlet)
-unfolding settles
-settled net c link outlet e =
-    seen_all (λ (h : HostRecord). BodyStands (after_wire c link outlet) (settles net h)) c
+pub did_wanted : (net : Net) (c : Body) (link : LinkState) (outlet : Wanted)
+    → IsWire link outlet (does_wants net c.row.address (c.link, c.parts.shared.outlet)) → Does (does_wanted net) c (after_wire c link outlet)
+unfolding does_wanted
+did_wanted net c link outlet e =
+    seen_all (λ (h : HostRecord). BodyStands (after_wire c link outlet) (does_wanted net h)) c
     (λ t w s. record {
       row = refl;
       link = e.0;
@@ -66,7 +66,7 @@ with_both c parts link = record c { parts = parts; link = link }
 pub handed : (net : Net) (packet : Packet) (c d : Body) (now : Time) (parts : Parts) (link : LinkState) (act : Act) → now ≡ c.link.time
     → ((p : PartsRecord) → PartsStand c.parts p → Delivered (arrives now packet p) act parts)
     → link ≡ logs act packet c.link
-    → Does (settles net) (with_both c parts link) d → Does (is_handed_over net packet) c d
+    → Does (does_wanted net) (with_both c parts link) d → Does (is_handed_over net packet) c d
 unfolding is_handed_over
 handed net packet c d now parts link act now_is delivers_now logged does =
     let delivers : (p : PartsRecord) → PartsStand c.parts p → Delivered (arrives c.link.time packet p) act parts =
@@ -123,7 +123,7 @@ came_down net c d answer first dropped last releases drops does makes =
 
 pub rang : (net : Net) (target : AlarmTarget) (serial : ℕ) (c d : Body) (now : Time) (parts : Parts) → now ≡ c.link.time
     → ((p : PartsRecord) → PartsStand c.parts p → PartsStand parts (alarmed now target serial p))
-    → Does (settles net) (record c { parts = parts }) d → Does (rings net target serial) c d
+    → Does (does_wanted net) (record c { parts = parts }) d → Does (rings net target serial) c d
 unfolding rings
 rang net target serial c d now parts now_is alarms_now does =
     let alarms : (p : PartsRecord) → PartsStand c.parts p → PartsStand parts (alarmed c.link.time target serial p) =

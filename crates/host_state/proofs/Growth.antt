@@ -30,7 +30,7 @@ use Rattle.host_link.specs.Net.{Net}
 use Rattle.host_state.specs.Fits.{FitsWhat, IsEventOf, IsLatency, IsLookaheadOf, IsShort}
 use Rattle.host_link.specs.Home.{home, home_of}
 use Rattle.host_link.specs.Wants.{does_want, does_all, does_wants}
-use Rattle.host_state.specs.Host.{settles}
+use Rattle.host_state.specs.Host.{does_wanted}
 use Rattle.host_state.specs.HostRecord.{HostRecord}
 use Rattle.host_link.specs.Lanes.{with_up, with_down}
 use Rattle.host_link.specs.Link.{LinkState, numbers, makes, later, not_before_next, event_of, logs}
@@ -336,6 +336,6 @@ module _ (net : Net) (lookahead : Option ℕ) (routes : IsLookaheadOf net lookah
   abbrev H : HostRecord → HostRecord → Type 0
   H h k = G h.link k.link
 
-  pub grows_settles : (h : HostRecord) → IsSound net h.link → H h (settles net h)
-  unfolding settles does_wants
-  grows_settles h sound = grows_wants h.row.address h.parts.shared.outlet.wants (h.link, without_wants h.parts.shared.outlet) sound
+  pub grows_does_wanted : (h : HostRecord) → IsSound net h.link → H h (does_wanted net h)
+  unfolding does_wanted does_wants
+  grows_does_wanted h sound = grows_wants h.row.address h.parts.shared.outlet.wants (h.link, without_wants h.parts.shared.outlet) sound

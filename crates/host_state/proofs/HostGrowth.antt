@@ -31,13 +31,13 @@ use Rattle.guest_process.specs.declared.start.Started.{Started}
 use Rattle.host_state.specs.Arriving.{is_handed_over, are_handed_over, goes_in, comes_to_router, comes_in, down_comes}
 use Rattle.host_state.specs.Fire.{begins, starts, ready, running_in, is_not_started, kept_by, runs_on, goes_if, goes, is_shut, shutdown_signal, shuts_if, shuts, rings, acts, wakes_if, would_answer, wakes_in, wakes, wakes_from, wakes_all, at_time, has_acted}
 use Rattle.host_state.specs.Fits.{IsLookaheadOf, IsShort}
-use Rattle.host_state.specs.Host.{with_link, with_parts, on_wire, wire_of, settles}
+use Rattle.host_state.specs.Host.{with_link, with_parts, on_wire, wire_of, does_wanted}
 use Rattle.host_state.specs.HostRecord.{HostRecord}
 use Rattle.host_link.specs.Lanes.{with_down}
 use Rattle.host_link.specs.Link.{LinkState, later, logs}
 use Rattle.host_link.specs.Sending.{is_bootstrapping, drop_all, up_comes}
 use Rattle.host_state.specs.Slice.{has_task, number_in, arguments_in, calls, closes, is_killed, by_turn_end, turns, runs_to_call, rests, has_ended, after_step, slice, follows, goes_later, pause}
-use Rattle.host_state.proofs.Growth.{IsSound, Grows, by_if, pushed_fits, released_fits, grows_not, grows_on, grows_makes, grows_made_if, grows_logs, grows_down, grows_drop_all, grows_up_comes, grows_settles}
+use Rattle.host_state.proofs.Growth.{IsSound, Grows, by_if, pushed_fits, released_fits, grows_not, grows_on, grows_makes, grows_made_if, grows_logs, grows_down, grows_drop_all, grows_up_comes, grows_does_wanted}
 
 module _ (net : Net) (lookahead : Option ℕ) (routes : IsLookaheadOf net lookahead) (short : IsShort lookahead) where
   abbrev G : LinkState → LinkState → Type 0
@@ -56,8 +56,8 @@ module _ (net : Net) (lookahead : Option ℕ) (routes : IsLookaheadOf net lookah
   stays : (h k : HostRecord) → k.link ≡ h.link → IsSound net h.link → H h k
   stays h k same sound = subst (λ (m : LinkState). G h.link m) (sym same) (grows_not net lookahead routes short h.link sound)
 
-  settling : (h : HostRecord) → IsSound net h.link → H h (settles net h)
-  settling h sound = grows_settles net lookahead routes short h sound
+  doing_wanted : (h : HostRecord) → IsSound net h.link → H h (does_wanted net h)
+  doing_wanted h sound = grows_does_wanted net lookahead routes short h sound
 
   -- ---- packets
 
@@ -66,7 +66,7 @@ module _ (net : Net) (lookahead : Option ℕ) (routes : IsLookaheadOf net lookah
   handed packet h sound =
       let r = arrives h.link.time packet h.parts in
       let m : LinkState = logs r.0 packet h.link in
-      on h.link m _ (grows_logs net lookahead routes short h.link r.0 packet sound) (λ next. settling (with_parts r.1 (with_link m h)) next)
+      on h.link m _ (grows_logs net lookahead routes short h.link r.0 packet sound) (λ next. doing_wanted (with_parts r.1 (with_link m h)) next)
 
   all_handed : (packets : List Packet) (h : HostRecord) → IsSound net h.link → H h (are_handed_over net packets h)
   unfolding are_handed_over
@@ -114,12 +114,12 @@ module _ (net : Net) (lookahead : Option ℕ) (routes : IsLookaheadOf net lookah
   calling : (p number : ℕ) (arguments : List ℕ) (cpu : Cpu) (h : HostRecord) → IsSound net h.link → S h (calls net p number arguments cpu h)
   unfolding calls
   calling p number arguments cpu h sound =
-      by_if (S h) (has_task p h.parts) _ _ (λ _. settling (with_parts (call net.known h.link.time p number arguments h.parts).1 h) sound) (λ _. stays h h refl sound)
+      by_if (S h) (has_task p h.parts) _ _ (λ _. doing_wanted (with_parts (call net.known h.link.time p number arguments h.parts).1 h) sound) (λ _. stays h h refl sound)
 
   closing : (p : ℕ) (h : HostRecord) → IsSound net h.link → H h (closes net p h)
   unfolding closes
   closing p h sound =
-      by_if (H h) (has_task p h.parts) _ _ (λ _. settling (with_parts (ended h.link.time p h.parts) h) sound) (λ _. stays h h refl sound)
+      by_if (H h) (has_task p h.parts) _ _ (λ _. doing_wanted (with_parts (ended h.link.time p h.parts) h) sound) (λ _. stays h h refl sound)
 
   killing : (p : ℕ) (signal : Signal) (h : HostRecord) → IsSound net h.link → S h (is_killed net p signal h)
   unfolding is_killed
@@ -199,7 +199,7 @@ module _ (net : Net) (lookahead : Option ℕ) (routes : IsLookaheadOf net lookah
 
   ringing : (target : AlarmTarget) (serial : ℕ) (h : HostRecord) → IsSound net h.link → H h (rings net target serial h)
   unfolding rings
-  ringing target serial h sound = settling (with_parts (alarmed h.link.time target serial h.parts) h) sound
+  ringing target serial h sound = doing_wanted (with_parts (alarmed h.link.time target serial h.parts) h) sound
 
   acting : (w : What) (h : HostRecord) → IsSound net h.link → H h (acts net w h)
   unfolding acts

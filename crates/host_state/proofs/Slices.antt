@@ -30,7 +30,7 @@ use Rattle.guest_process.specs.declared.process.Process.{Process}
 use Rattle.host_state.specs.Step.{Step}
 use Rattle.host_state.specs.Step as step
 use Rattle.host_state.specs.HostRecord.{HostRecord}
-use Rattle.host_state.specs.Host.{with_link, with_parts, with_process, settles}
+use Rattle.host_state.specs.Host.{with_link, with_parts, with_process, does_wanted}
 use Rattle.host_state.specs.Slice.{has_task, number_in, arguments_in, step_of, has_called, calls, closes, is_killed, by_turn_end, turns, with_task, runs_to_call, rests, has_ended, after_step, slice, follows, calls_again, goes_later, pause}
 use Rattle.host_state.specs.StandsFor.{BodyStands, StepStands, Does, DoesStep, LeadsTo}
 use Rattle.guest_process.specs.Turns.{TurnStands, SlotTurns}
@@ -47,7 +47,7 @@ set_same {A = A} (y ∷ xs) (suc p) x there = let rest : slice_set xs p x ≡ xs
 pub called : (net : Net) (p number : ℕ) (arguments : List ℕ) (cpu : Cpu) (c d : Body) (now : Time) (answer : Answer) (parts : Parts) (s : Step)
     → nat_lt p (length c.parts.tasks.items) ≡ true → now ≡ c.link.time
     → ((q : PartsRecord) → PartsStand c.parts q → PartsCalled (call net.known now p number arguments q) answer parts)
-    → Does (settles net) (record c { parts = parts }) d → s ≡ step_of answer cpu
+    → Does (does_wanted net) (record c { parts = parts }) d → s ≡ step_of answer cpu
     → DoesStep (calls net p number arguments cpu) s c d
 unfolding calls
 called net p number arguments cpu c d now answer parts s there now_is calls_now does step_is =
@@ -76,7 +76,7 @@ not_called net p number arguments cpu c there =
 
 pub closed : (net : Net) (p : ℕ) (c d : Body) (now : Time) (parts : Parts) → nat_lt p (length c.parts.tasks.items) ≡ true → now ≡ c.link.time
     → ((q : PartsRecord) → PartsStand c.parts q → PartsStand parts (ended now p q))
-    → Does (settles net) (record c { parts = parts }) d → Does (closes net p) c d
+    → Does (does_wanted net) (record c { parts = parts }) d → Does (closes net p) c d
 unfolding closes
 closed net p c d now parts there now_is ends_now does =
     let ends : (q : PartsRecord) → PartsStand c.parts q → PartsStand parts (ended c.link.time p q) =
@@ -84,7 +84,7 @@ closed net p c d now parts there now_is ends_now does =
     seen_all (λ (h : HostRecord). BodyStands d (closes net p h)) c
     (λ t w stand.
     let h : HostRecord = seen c t w in
-    subst (λ (b : Bool). BodyStands d (if b then settles net (with_parts (ended c.link.time p h.parts) h) else h)) (sym there)
+    subst (λ (b : Bool). BodyStands d (if b then does_wanted net (with_parts (ended c.link.time p h.parts) h) else h)) (sym there)
     (does (with_parts (ended c.link.time p h.parts) h) (record { row = refl; link = refl; processes = refl; parts = ends h.parts (stands_seen c t w stand).parts })))
 
 pub not_closed : (net : Net) (p : ℕ) (c : Body) → nat_lt p (length c.parts.tasks.items) ≡ false → Does (closes net p) c c
@@ -93,7 +93,7 @@ not_closed net p c there =
     seen_all (λ (h : HostRecord). BodyStands c (closes net p h)) c
     (λ t w stand.
     let h : HostRecord = seen c t w in
-    subst (λ (b : Bool). BodyStands c (if b then settles net (with_parts (ended c.link.time p h.parts) h) else h)) (sym there) (stands_seen c t w stand))
+    subst (λ (b : Bool). BodyStands c (if b then does_wanted net (with_parts (ended c.link.time p h.parts) h) else h)) (sym there) (stands_seen c t w stand))
 
 pub killed : (net : Net) (p : ℕ) (signal : Signal) (c d : Body) → Does (closes net p) c d → DoesStep (is_killed net p signal) (step.Ends (Signaled signal)) c d
 unfolding is_killed

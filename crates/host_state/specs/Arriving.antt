@@ -16,11 +16,11 @@ use Rattle.host_state.specs.HostRecord.{HostRecord}
 use Rattle.host_link.specs.Link.{LinkState, logs}
 use Rattle.host_link.specs.Lanes.{pushes_down, releases_down}
 use Rattle.host_link.specs.Sending.{is_bootstrapping, makes_if, drop_all}
-use Rattle.host_state.specs.Host.{with_link, with_parts, settles}
+use Rattle.host_state.specs.Host.{with_link, with_parts, does_wanted}
 
 -- the sockets have a packet, which is logged before what they send
 abbrev pub has_arrived : Net → Packet → Act × PartsRecord → HostRecord → HostRecord
-has_arrived net packet (act, parts) host = settles net (with_parts parts (with_link (logs act packet host.link) host))
+has_arrived net packet (act, parts) host = does_wanted net (with_parts parts (with_link (logs act packet host.link) host))
 
 unfoldable pub is_handed_over : Net → Packet → HostRecord → HostRecord
 is_handed_over net packet host = has_arrived net packet (arrives host.link.time packet host.parts) host

@@ -25,7 +25,7 @@ use Rattle.sim_base.specs.declared.signal.Signal.{Signal}
 use Rattle.host_state.specs.HostRecord.{HostRecord}
 use Rattle.host_link.specs.Link.{comes_to, without_made}
 use Rattle.host_link.specs.Sending.{up_comes}
-use Rattle.host_state.specs.Host.{with_link, with_parts, on_wire, settles}
+use Rattle.host_state.specs.Host.{with_link, with_parts, on_wire, does_wanted}
 use Rattle.host_state.specs.Arriving.{is_handed_over, comes_in, down_comes}
 use Rattle.host_state.specs.Slice.{calls_in_a_slice, has_task, is_killed, follows, goes_later, slice, calls_again}
 use Rattle.guest_process.specs.Start.{texts_fit, start_cpu, start_memory}
@@ -110,7 +110,7 @@ shuts net p host = shuts_if net p (running_in (slice_get host.processes p)) host
 -- ---- Alarm: the moment of an alarm has come
 
 unfoldable pub rings : Net → AlarmTarget → ℕ → HostRecord → HostRecord
-rings net target serial host = settles net (with_parts (alarmed host.link.time target serial host.parts) host)
+rings net target serial host = does_wanted net (with_parts (alarmed host.link.time target serial host.parts) host)
 
 -- ---- the table of events
 

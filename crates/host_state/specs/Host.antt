@@ -32,5 +32,5 @@ abbrev pub on_wire : (Wire → Wire) → HostRecord → HostRecord
 on_wire act host = with_wire (act (wire_of host)) host
 
 -- the host's parts have acted: what they want is done, in order
-unfoldable pub settles : Net → HostRecord → HostRecord
-settles net host = on_wire (does_wants net host.row.address) host
+unfoldable pub does_wanted : Net → HostRecord → HostRecord
+does_wanted net host = on_wire (does_wants net host.row.address) host

@@ -23,7 +23,7 @@ use Rattle.host_state.specs.Step.{Step}
 use Rattle.host_state.specs.Step as step
 use Rattle.host_state.specs.HostRecord.{HostRecord}
 use Rattle.host_link.specs.Link.{makes, later}
-use Rattle.host_state.specs.Host.{with_link, with_parts, with_process, settles}
+use Rattle.host_state.specs.Host.{with_link, with_parts, with_process, does_wanted}
 
 -- a slice has at most so many answered calls, and the process pauses so many nanoseconds after them
 abbrev pub calls_in_a_slice : ℕ
@@ -54,7 +54,7 @@ abbrev pub has_task : ℕ → PartsRecord → Bool
 has_task p parts = nat_lt p (length parts.tasks)
 
 abbrev pub has_called : Net → Cpu → Answer × PartsRecord → HostRecord → Step × HostRecord
-has_called net cpu (answer, parts) host = (step_of answer cpu, settles net (with_parts parts host))
+has_called net cpu (answer, parts) host = (step_of answer cpu, does_wanted net (with_parts parts host))
 
 unfoldable pub calls : Net → ℕ → ℕ → List ℕ → Cpu → HostRecord → Step × HostRecord
 calls net p number arguments cpu host =
@@ -64,7 +64,7 @@ calls net p number arguments cpu host =
 
 -- a process ends by a signal, and its descriptors are closed
 unfoldable pub closes : Net → ℕ → HostRecord → HostRecord
-closes net p host = if has_task p host.parts then settles net (with_parts (ended host.link.time p host.parts) host) else host
+closes net p host = if has_task p host.parts then does_wanted net (with_parts (ended host.link.time p host.parts) host) else host
 
 unfoldable pub is_killed : Net → ℕ → Signal → HostRecord → Step × HostRecord
 is_killed net p signal host = (step.Ends (Signaled signal), closes net p host)

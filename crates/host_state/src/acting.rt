@@ -16,8 +16,8 @@ use sim_base::{Act, AlarmTarget, MAX_PACKET, NoMemory, Packet, What};
 
 impl Body {
     /// The parts have acted: what they want is done.
-    pub(crate) fn settle(&mut self, net: &Net) -> Result<(), NoMemory>
-        ensures { OnOk result (Does (spec.settles net.now) self.old self.new) }
+    pub(crate) fn do_wanted(&mut self, net: &Net) -> Result<(), NoMemory>
+        ensures { OnOk result (Does (spec.does_wanted net.now) self.old self.new) }
     {
         let own = self.row.address;
         self.link.do_wants(&mut self.parts.shared.outlet, net, own)?;
@@ -39,7 +39,7 @@ impl Body {
         let now = self.link.now();
         let act = deliver(&mut self.parts, now, &packet)?;
         self.link.log(act, packet)?;
-        self.settle(net)?;
+        self.do_wanted(net)?;
         Ok(())
     }
 
@@ -112,7 +112,7 @@ impl Body {
     {
         let now = self.link.now();
         alarm(&mut self.parts, now, target, serial)?;
-        self.settle(net)?;
+        self.do_wanted(net)?;
         Ok(())
     }
 }

@@ -69,7 +69,7 @@ impl Body {
         }
         let now = self.link.now();
         let answer = do_call(&mut self.parts, &net.known, now, process, number, arguments)?;
-        self.settle(net)?;
+        self.do_wanted(net)?;
         Ok(next_of(answer, cpu))
     }
 
@@ -82,7 +82,7 @@ impl Body {
         }
         let now = self.link.now();
         close_all(&mut self.parts, now, process)?;
-        self.settle(net)?;
+        self.do_wanted(net)?;
         Ok(())
     }
 

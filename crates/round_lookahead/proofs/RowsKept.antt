@@ -24,7 +24,7 @@ use Rattle.host_link.specs.Net.{Net}
 use Rattle.guest_process.specs.declared.process.Running.{Running}
 use Rattle.host_state.specs.Arriving.{is_handed_over, are_handed_over, goes_in, comes_to_router, comes_in, down_comes}
 use Rattle.host_state.specs.Fire.{begins, starts, ready, running_in, is_not_started, kept_by, runs_on, goes_if, goes, is_shut, shutdown_signal, shuts_if, shuts, rings, acts, wakes_if, would_answer, wakes_in, wakes, wakes_from, wakes_all, at_time, has_acted}
-use Rattle.host_state.specs.Host.{with_link, with_parts, settles}
+use Rattle.host_state.specs.Host.{with_link, with_parts, does_wanted}
 use Rattle.host_state.specs.HostRecord.{HostRecord}
 use Rattle.host_link.specs.Lanes.{pushes_down, releases_down}
 use Rattle.host_link.specs.Sending.{is_bootstrapping, drop_all}
@@ -42,14 +42,14 @@ module _ (net : Net) where
   abbrev Kept : HostRecord → HostRecord → Type 0
   Kept h k = k.row ≡ h.row
 
-  settling : (h : HostRecord) → Kept h (settles net h)
-  unfolding settles
-  settling h = refl
+  doing_wanted : (h : HostRecord) → Kept h (does_wanted net h)
+  unfolding does_wanted
+  doing_wanted h = refl
 
   -- ---- packets
 
   handed : (packet : Packet) (h : HostRecord) → Kept h (is_handed_over net packet h)
-  unfolding is_handed_over settles
+  unfolding is_handed_over does_wanted
   handed packet h = refl
 
   all_handed : (packets : List Packet) (h : HostRecord) → Kept h (are_handed_over net packets h)
@@ -85,11 +85,11 @@ module _ (net : Net) where
   calling : (p number : ℕ) (arguments : List ℕ) (cpu : Cpu) (h : HostRecord) → KeptBy h (calls net p number arguments cpu h)
   unfolding calls
   calling p number arguments cpu h =
-      by_if (KeptBy h) (has_task p h.parts) _ _ (λ _. settling (with_parts (call net.known h.link.time p number arguments h.parts).1 h)) (λ _. refl)
+      by_if (KeptBy h) (has_task p h.parts) _ _ (λ _. doing_wanted (with_parts (call net.known h.link.time p number arguments h.parts).1 h)) (λ _. refl)
 
   closing : (p : ℕ) (h : HostRecord) → Kept h (closes net p h)
   unfolding closes
-  closing p h = by_if (Kept h) (has_task p h.parts) _ _ (λ _. settling (with_parts (ended h.link.time p h.parts) h)) (λ _. refl)
+  closing p h = by_if (Kept h) (has_task p h.parts) _ _ (λ _. doing_wanted (with_parts (ended h.link.time p h.parts) h)) (λ _. refl)
 
   killing : (p : ℕ) (signal : Signal) (h : HostRecord) → KeptBy h (is_killed net p signal h)
   unfolding is_killed
@@ -165,7 +165,7 @@ module _ (net : Net) where
   shutting p h = shutting_if p (running_in (slice_get h.processes p)) h
 
   acting : (w : What) (h : HostRecord) → Kept h (acts net w h)
-  unfolding acts rings settles
+  unfolding acts rings does_wanted
   acting (what.Start p) h = starting p h
   acting (what.Go p) h = going p h
   acting (what.Shutdown p) h = shutting p h

@@ -46,7 +46,7 @@ use Rattle.host_state.specs.Step.{Step}
 use Rattle.host_state.specs.Step as step
 use Rattle.host_state.specs.Arriving.{is_handed_over, are_handed_over, goes_in, comes_to_router, comes_in, down_comes}
 use Rattle.host_state.specs.Fire.{begins, starts, ready, running_in, is_not_started, kept_by, runs_on, goes_if, goes, is_shut, shutdown_signal, shuts_if, shuts, rings, acts, wakes_if, would_answer, wakes_in, wakes, wakes_from, wakes_all, at_time, has_acted, ready_image, ready_row}
-use Rattle.host_state.specs.Host.{with_link, with_parts, on_wire, wire_of, settles}
+use Rattle.host_state.specs.Host.{with_link, with_parts, on_wire, wire_of, does_wanted}
 use Rattle.host_link.specs.Wants.{does_wants}
 use Rattle.host_state.specs.HostRecord.{HostRecord}
 use Rattle.host_link.specs.Lanes.{with_down}
@@ -65,9 +65,9 @@ module _ (net : Net) (lent : NetHasBytes net) where
   abbrev H : HostRecord → Type 0
   H h = HostFits h
 
-  settling : (h : HostRecord) → H h → H (settles net h)
-  unfolding settles does_wants
-  settling h k =
+  doing_wanted : (h : HostRecord) → H h → H (does_wanted net h)
+  unfolding does_wanted does_wants
+  doing_wanted h k =
       let out = h.parts.shared.outlet in
       let done = wants_done net h.row.address out.wants (h.link, without_wants out) k.1.wants (k.0, tt) in
       (done.0, record { tasks = k.1.tasks; files = k.1.files; wants = done.1; sockets = k.1.sockets }, k.2)
@@ -78,7 +78,7 @@ module _ (net : Net) (lent : NetHasBytes net) where
   unfolding is_handed_over
   handed packet h whole k =
       let r = arrives h.link.time packet h.parts in
-      settling (with_parts r.1 (with_link (logs r.0 packet h.link) h)) (logs_fit h.link r.0 packet whole k.0, arrival_fits h.link.time packet h.parts whole k.1, k.2)
+      doing_wanted (with_parts r.1 (with_link (logs r.0 packet h.link) h)) (logs_fit h.link r.0 packet whole k.0, arrival_fits h.link.time packet h.parts whole k.1, k.2)
 
   all_handed : (packets : List Packet) (h : HostRecord) → AreWhole packets → H h → H (are_handed_over net packets h)
   unfolding are_handed_over
@@ -127,7 +127,7 @@ module _ (net : Net) (lent : NetHasBytes net) where
   calling p number arguments cpu h k =
       by_test StepFits (has_task p h.parts) _ _
       (λ e.
-      settling (with_parts (call net.known h.link.time p number arguments h.parts).1 h)
+      doing_wanted (with_parts (call net.known h.link.time p number arguments h.parts).1 h)
       (k.0, call_fits net.known h.link.time p number arguments h.parts lent.hosts k.1, k.2))
       (λ e. k)
 
@@ -135,7 +135,7 @@ module _ (net : Net) (lent : NetHasBytes net) where
   unfolding closes
   closing p h k =
       by_test H (has_task p h.parts) _ _
-      (λ e. settling (with_parts (ended h.link.time p h.parts) h) (k.0, ended_fits h.link.time p h.parts k.1, k.2))
+      (λ e. doing_wanted (with_parts (ended h.link.time p h.parts) h) (k.0, ended_fits h.link.time p h.parts k.1, k.2))
       (λ e. k)
 
   killing : (p : ℕ) (cause : Signal) (h : HostRecord) → H h → StepFits (is_killed net p cause h)
@@ -253,7 +253,7 @@ module _ (net : Net) (lent : NetHasBytes net) where
   ringing : (target : AlarmTarget) (serial : ℕ) (h : HostRecord) → H h → H (rings net target serial h)
   unfolding rings
   ringing target serial h k =
-      settling (with_parts (alarmed h.link.time target serial h.parts) h) (k.0, alarmed_fits h.link.time target serial h.parts k.1, k.2)
+      doing_wanted (with_parts (alarmed h.link.time target serial h.parts) h) (k.0, alarmed_fits h.link.time target serial h.parts k.1, k.2)
 
   acting : (w : What) (h : HostRecord) → WhatFits w → H h → H (acts net w h)
   unfolding acts

@@ -13,7 +13,7 @@ use Rattle.yaml_merge.specs.declared.plain.Pair.{Pair}
 use Rattle.shd_values.specs.Word.{is_name_of_host}
 use Rattle.shd_config.specs.Config.{root, new_root, experimental_at, root_key, root_row, general_or, finished_root, root_of, merged_config, wrong_merge, config, is_passed_over}
 use Rattle.shd_config.specs.General.{general_at}
-use Rattle.shd_config.specs.Host.{options_at, new_host, host_row, finished_host, host_of, host_at, hosts_row, hosts_at, settled}
+use Rattle.shd_config.specs.Host.{options_at, new_host, host_row, finished_host, host_of, host_at, hosts_row, hosts_at, completed}
 use Rattle.shd_config.specs.Keys.{key_of}
 use Rattle.shd_config.specs.Network.{network_at}
 use Rattle.shd_config.specs.Steps.{needed, through, given, optional}
@@ -137,9 +137,9 @@ module _ (name : List ℕ) where
   abbrev HasFew : Config → Type 0
   HasFew c = copies name (map (λ (h : HostConfig). h.name) c.hosts) ≤ 1
 
-  names_settled : (all : HostOptions) (hs : List HostRead) → map (λ (h : HostConfig). h.name) (map (settled all) hs) ≡ names hs
-  names_settled all [] = refl
-  names_settled all (h ∷ hs) = ap (λ (ns : List (List ℕ)). h.name ∷ ns) (names_settled all hs)
+  names_completed : (all : HostOptions) (hs : List HostRead) → map (λ (h : HostConfig). h.name) (map (completed all) hs) ≡ names hs
+  names_completed all [] = refl
+  names_completed all (h ∷ hs) = ap (λ (ns : List (List ℕ)). h.name ∷ ns) (names_completed all hs)
 
   module _ (o : Overrides) where
     key_few : (key : Option Key) (d : RootDraft) (p : Pair) → IsOnce name p.value → IsRoot d → IfOk (root_key o key d p) IsRoot
@@ -159,7 +159,7 @@ module _ (name : List ℕ) where
         then_all HasFew (general_or o line d.general) _
         (λ general. then_all HasFew (needed (codes "network") line d.network) _
         (λ network. then_has AreFew HasFew (needed (codes "hosts") line d.hosts) _ (needed_has AreFew (codes "hosts") line d.hosts h)
-        (λ hosts k. subst (λ (ns : List (List ℕ)). copies name ns ≤ 1) (sym (names_settled d.options hosts)) k)))
+        (λ hosts k. subst (λ (ns : List (List ℕ)). copies name ns ≤ 1) (sym (names_completed d.options hosts)) k)))
 
     root_few : (line : ℕ) (pairs : List Pair) → AreOnce name pairs → IfOk (root_of o line pairs) HasFew
     unfolding root_of

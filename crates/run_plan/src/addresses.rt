@@ -82,9 +82,9 @@ fn with_open(alloc: Global, given: &Book, hosts: &[Option<Ip>]) -> Result<Vec<Ip
     let mut addresses = Vec::new(alloc);
     let mut next = FIRST;
     for host in hosts {
-        let settled = address_host(given, next, *host);
-        next = settled.next;
-        addresses.push(settled.address)?;
+        let addressed = address_host(given, next, *host);
+        next = addressed.next;
+        addresses.push(addressed.address)?;
     }
     Ok(addresses)
 }

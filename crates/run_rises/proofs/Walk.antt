@@ -34,7 +34,7 @@ use Rattle.host_state.specs.Step.{Step}
 use Rattle.host_state.specs.Step as step
 use Rattle.host_state.specs.Arriving.{is_handed_over, are_handed_over, goes_in, comes_to_router, comes_in, down_comes}
 use Rattle.host_state.specs.Fire.{begins, starts, ready, running_in, is_not_started, kept_by, runs_on, goes_if, goes, is_shut, shutdown_signal, shuts_if, shuts, rings, acts, wakes_if, would_answer, wakes_in, wakes, wakes_from, wakes_all, at_time, has_acted, fire}
-use Rattle.host_state.specs.Host.{with_link, with_parts, on_wire, settles}
+use Rattle.host_state.specs.Host.{with_link, with_parts, on_wire, does_wanted}
 use Rattle.host_state.specs.HostRecord.{HostRecord}
 use Rattle.host_link.specs.Lanes.{with_down}
 use Rattle.host_link.specs.Sending.{is_bootstrapping, drop_all, up_comes}
@@ -140,14 +140,14 @@ module _ (net : Net) where
       (lead_by h.link.time.nanos (host_files h) parts.shared.files m.files, (m.tasks, (refl, holds)))
 
   -- what is wanted is done by the link
-  settled : (h : HostRecord) → H h (settles net h)
-  unfolding settles
-  settled h = stays h
+  did_wanted : (h : HostRecord) → H h (does_wanted net h)
+  unfolding does_wanted
+  did_wanted h = stays h
 
   -- ---- packets
 
   handed : (packet : Packet) (h : HostRecord) → H h (is_handed_over net packet h)
-  unfolding is_handed_over settles
+  unfolding is_handed_over does_wanted
   handed packet h =
       let parts = (arrives h.link.time packet h.parts).1 in
       then h (with_parts parts h) (is_handed_over net packet h)
@@ -190,8 +190,8 @@ module _ (net : Net) where
   unfolding goes_later
   going_later nanos p cpu h = stays h
 
-  acted : (h k : HostRecord) → H h k → H h (settles net k)
-  acted h k m = then h k (settles net k) m (settled k)
+  acted : (h k : HostRecord) → H h k → H h (does_wanted net k)
+  acted h k m = then h k (does_wanted net k) m (did_wanted k)
 
   calling : (p number : ℕ) (arguments : List ℕ) (cpu : Cpu) (h : HostRecord) → S h (calls net p number arguments cpu h)
   unfolding calls

@@ -15,7 +15,7 @@ use Rattle.call_streams.proofs.Table.{arrives_moves}
 use Rattle.run_streams.specs.Exchanges.{link_packets}
 use Rattle.run_streams.proofs.Every.{Every}
 use Rattle.run_streams.proofs.Links.{carries_logs}
-use Rattle.run_streams.proofs.Hosts.{IsGood, HostMoves, rests, on, parts_move, link_moves, settled}
+use Rattle.run_streams.proofs.Hosts.{IsGood, HostMoves, rests, on, parts_move, link_moves, did_wanted}
 
 module _ (net : Net) (scope : Addr → Addr → Bool) (own : Ip) (n : ℕ) (others : List Tcb) (flying : List Packet) where
   abbrev H : HostRecord → HostRecord → Type 0
@@ -36,7 +36,7 @@ module _ (net : Net) (scope : Addr → Addr → Bool) (own : Ip) (n : ℕ) (othe
       (parts_move net scope own n others flying logged r.1 a
       (arrives_moves net.known.book (flying ++ link_packets m) h.link.time packet h.parts
       (Contains-append_left flying (link_packets m) packet c)))
-      (λ b. settled net scope own n others flying arrived b))
+      (λ b. did_wanted net scope own n others flying arrived b))
 
   pub all_handed : (packets : List Packet) (h : HostRecord) → Every (λ p. Contains flying p) packets → IsGood own n h → H h (are_handed_over net packets h)
   unfolding are_handed_over

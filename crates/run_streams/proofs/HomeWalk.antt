@@ -50,7 +50,7 @@ use Rattle.host_state.specs.Step as step
 use Rattle.host_state.specs.Arriving.{is_handed_over, are_handed_over, goes_in, comes_to_router, comes_in, down_comes}
 use Rattle.host_state.specs.Fire.{begins, starts, ready, running_in, is_not_started, kept_by, runs_on, goes_if, goes, is_shut, shutdown_signal, shuts_if, shuts, rings, acts, wakes_if, would_answer, wakes_in, wakes, wakes_from, wakes_all, at_time, has_acted}
 use Rattle.run_files.specs.Captures.{is_loopback}
-use Rattle.host_state.specs.Host.{with_link, with_parts, on_wire, wire_of, with_wire, settles}
+use Rattle.host_state.specs.Host.{with_link, with_parts, on_wire, wire_of, with_wire, does_wanted}
 use Rattle.host_link.specs.Wants.{does_wants}
 use Rattle.host_state.specs.HostRecord.{HostRecord}
 use Rattle.host_link.specs.Lanes.{with_down}
@@ -70,7 +70,7 @@ use Rattle.run_streams.proofs.HomeLinks.{FitsSent, Comes, Loops, HomeLink, HomeW
 use Rattle.run_streams.proofs.Lanes.{PushFits, push_fits, release_fits, release_drops}
 
 -- a host as an event fires
-pub record IsSettled (net : Net) (own : Ip) (n : ℕ) (cause : What) (h : HostRecord) : Type 0 where
+pub record IsFiring (net : Net) (own : Ip) (n : ℕ) (cause : What) (h : HostRecord) : Type 0 where
   pub address : h.row.address ≡ own
   pub here : Here own h.parts.sockets
   pub fit : OwnFit own (sockets_in h.parts)
@@ -128,7 +128,7 @@ FitsIn own _ = Unit {0}
 
 module _ (net : Net) (own : Ip) (n : ℕ) (cause : What) (outside : is_same_ip own loopback ≡ false) where
   abbrev K : HostRecord → Type 0
-  K h = IsSettled net own n cause h
+  K h = IsFiring net own n cause h
 
   abbrev K1 : Step × HostRecord → Type 0
   K1 t = K t.1
@@ -159,9 +159,9 @@ module _ (net : Net) (own : Ip) (n : ℕ) (cause : What) (outside : is_same_ip o
   parted : (h : HostRecord) (parts : PartsRecord) → Moves net.known.book [] (sockets_in h.parts) (sockets_in parts) → K h → K (with_parts parts h)
   parted h parts moves k = parted_from [] h parts (λ p c. absurd (IsIn_from_Contains p [] c)) moves k
 
-  settled : (h : HostRecord) → K h → K (settles net h)
-  unfolding settles
-  settled h k =
+  did_wanted : (h : HostRecord) → K h → K (does_wanted net h)
+  unfolding does_wanted
+  did_wanted h k =
       wired h [] (does_wants net h.row.address (wire_of h)) k tt
       (subst (λ (a : Ip). HomeWire net own n cause [] (does_wants net a (wire_of h))) (sym k.address) (home_wants net own n cause (wire_of h) outside k.fit.1 k.link))
 
@@ -189,7 +189,7 @@ module _ (net : Net) (own : Ip) (n : ℕ) (cause : What) (outside : is_same_ip o
       let m : LinkState = logs r.0 packet h.link in
       let logged : HostRecord = with_link m h in
       let left : HostRecord = with_parts r.1 logged in
-      settled left
+      did_wanted left
       (parted_from (packet ∷ []) logged r.1
       (λ p c. ⊎_elim (λ e. subst (λ (q : Packet). IsEnd own q.to q.from) (sym e) given.ends) (λ none. absurd none) (IsIn_from_Contains p (packet ∷ []) c))
       (arrives_moves net.known.book (packet ∷ []) h.link.time packet h.parts (Contains_here packet []))
@@ -243,7 +243,7 @@ module _ (net : Net) (own : Ip) (n : ℕ) (cause : What) (outside : is_same_ip o
   calling p number arguments cpu h k =
       let r = call net.known h.link.time p number arguments h.parts in
       by_test K1 (has_task p h.parts) _ _
-      (λ e. settled (with_parts r.1 h) (parted h r.1 (call_moves net.known [] h.link.time p number arguments h.parts) k))
+      (λ e. did_wanted (with_parts r.1 h) (parted h r.1 (call_moves net.known [] h.link.time p number arguments h.parts) k))
       (λ e. k)
 
   closing : (p : ℕ) (h : HostRecord) → K h → K (closes net p h)
@@ -251,7 +251,7 @@ module _ (net : Net) (own : Ip) (n : ℕ) (cause : What) (outside : is_same_ip o
   closing p h k =
       let left = ended h.link.time p h.parts in
       by_test K (has_task p h.parts) _ _
-      (λ e. settled (with_parts left h) (parted h left (ended_moves net.known.book [] h.link.time p h.parts) k))
+      (λ e. did_wanted (with_parts left h) (parted h left (ended_moves net.known.book [] h.link.time p h.parts) k))
       (λ e. k)
 
   killing : (p : ℕ) (cause : Signal) (h : HostRecord) → K h → K1 (is_killed net p cause h)
@@ -336,7 +336,7 @@ module _ (net : Net) (own : Ip) (n : ℕ) (cause : What) (outside : is_same_ip o
   unfolding rings
   ringing target serial h k =
       let parts = alarmed h.link.time target serial h.parts in
-      settled (with_parts parts h) (parted h parts (alarmed_moves net.known.book [] h.link.time target serial h.parts) k)
+      did_wanted (with_parts parts h) (parted h parts (alarmed_moves net.known.book [] h.link.time target serial h.parts) k)
 
   -- ---- the end of a firing
 

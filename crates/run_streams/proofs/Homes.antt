@@ -34,7 +34,7 @@ use Rattle.run_streams.specs.Run.IsReached.{begins, turns}
 use Rattle.run_streams.proofs.Every.{Every, every_append, every_with, every_here, every_member, given, AllAt, set_at}
 use Rattle.run_streams.proofs.Firing.{fires_so}
 use Rattle.run_streams.proofs.HomeLinks.{HasHost, Departs, Comes, Loops, FitsSent, IsSent, IsLineOf, loops_loopback, second_of}
-use Rattle.run_streams.proofs.HomeWalk.{IsSettled, FitsIn, event_home}
+use Rattle.run_streams.proofs.HomeWalk.{IsFiring, FitsIn, event_home}
 use Rattle.run_streams.proofs.Insides.{rest_there, rows_at}
 use Rattle.run_streams.proofs.Links.{IsAway}
 use Rattle.run_streams.proofs.Worlds.{row_carries, rows_events, turn_of}
@@ -205,7 +205,7 @@ pub record IsHomed (rows : List Row) (i : ℕ) (h : HostRecord) : Type 0 where
 record Stays (net : Net) (rows : List Row) (i : ℕ) (h : HostRecord) : Type 0 where
   row : Row
   there : slice_get rows i ≡ Some row
-  settled : (cause : What) → IsSettled net row.address i cause h
+  firing : (cause : What) → IsFiring net row.address i cause h
 
 record AllStay (net : Net) (rows : List Row) (w : World) : Type 0 where
   hosts : AllAt (Stays net rows) w.hosts
@@ -223,13 +223,13 @@ module _ (net : Net) (rows : List Row) (are : AreHosts net rows) where
   }
 
   -- a host fires
-  acted : (e : Event) (h : HostRecord) (i : ℕ) → home net e ≡ i → Fits net rows e → (s : Stays net rows i h) → IsSettled net s.row.address i e.what (has_acted net e h)
+  acted : (e : Event) (h : HostRecord) (i : ℕ) → home net e ≡ i → Fits net rows e → (s : Stays net rows i h) → IsFiring net s.row.address i e.what (has_acted net e h)
   acted e h i at fits s =
       event_home net s.row.address i e.what (are.outside i s.row s.there) e h refl
       (comes_home net rows e.key.source.index e.what s.row are (subst (λ (k : ℕ). slice_get rows k ≡ Some s.row) (sym at) s.there) fits)
-      (s.settled e.what)
+      (s.firing e.what)
 
-  fired : (own : Ip) (n : ℕ) (cause next : What) (e : Event) (h : HostRecord) → IsSettled net own n cause (has_acted net e h) → IsSettled net own n next (fire net h e).host
+  fired : (own : Ip) (n : ℕ) (cause next : What) (e : Event) (h : HostRecord) → IsFiring net own n cause (has_acted net e h) → IsFiring net own n next (fire net h e).host
   fired own n cause next e h k = record {
     address = k.address;
     here = record { own = k.here.own; bound = k.here.bound };
@@ -245,7 +245,7 @@ module _ (net : Net) (rows : List Row) (are : AreHosts net rows) where
       let after = acted e h i refl (every_member (Fits net rows) w.events e all.events there) s in
       record {
         hosts = set_at (Stays net rows) w.hosts i f.host (λ j x apart here. all.hosts j x here)
-            (record { row = s.row; there = s.there; settled = λ next. fired s.row.address i e.what next e h after });
+            (record { row = s.row; there = s.there; firing = λ next. fired s.row.address i e.what next e h after });
         events = every_append (Fits net rows) rest f.made (rest_fits w e rest taken all.events)
             (every_with (IsSent net s.row.address i) (Fits net rows) f.made
             (λ x c sent. sent_fits net rows i x.key.source.index x.what s.row s.there sent.0 sent.1) after.link.made);
@@ -270,7 +270,7 @@ module _ (net : Net) (rows : List Row) (are : AreHosts net rows) where
       record {
         row = row;
         there = at;
-        settled = λ cause. record {
+        firing = λ cause. record {
           address = refl;
           here = here_always net.known.book row.address [] [];
           fit = none_own row.address [];
@@ -295,8 +295,8 @@ module _ (net : Net) (rows : List Row) (are : AreHosts net rows) where
   pub run_homed : (w : World) → IsReached net (opening_world rows) w → (i : ℕ) (h : HostRecord) → slice_get w.hosts i ≡ Some h → IsHomed rows i h
   run_homed w reached i h at =
       let s = (run_stays w reached).hosts i h at in
-      let settled = s.settled what.Up in
-      record { row = s.row; there = s.there; address = settled.address; records = own_home s.row.address h.parts.sockets h.parts.shared.outlet settled.fit }
+      let firing = s.firing what.Up in
+      record { row = s.row; there = s.there; address = firing.address; records = own_home s.row.address h.parts.sockets h.parts.shared.outlet firing.fit }
 
   pub records_home : (w : World) → IsReached net (opening_world rows) w → (i : ℕ) (h : HostRecord) → slice_get w.hosts i ≡ Some h → AreAtHome h.row.address (host_records h)
   records_home w reached i h at =
@@ -329,4 +329,4 @@ module _ (net : Net) (rows : List Row) (are : AreHosts net rows) where
   lines_tell w e h reached there at =
       let s = (run_stays w reached).hosts (home net e) h at in
       let after = acted e h (home net e) refl (carried_fits w e reached there) s in
-      subst (λ (a : Ip). Every (IsLineOf (home net e) a e.what) (fire net h e).lines) (sym (s.settled e.what).address) after.link.lines
+      subst (λ (a : Ip). Every (IsLineOf (home net e) a e.what) (fire net h e).lines) (sym (s.firing e.what).address) after.link.lines

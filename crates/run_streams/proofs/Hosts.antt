@@ -15,7 +15,7 @@ use Rattle.host_wants.specs.Wanted.{Wanted}
 use Rattle.host_sockets.specs.Sockets.{SocketsRecord}
 use Rattle.host_calls.specs.Parts.{PartsRecord}
 use Rattle.host_link.specs.Net.{Net}
-use Rattle.host_state.specs.Host.{with_link, with_parts, wire_of, with_wire, settles}
+use Rattle.host_state.specs.Host.{with_link, with_parts, wire_of, with_wire, does_wanted}
 use Rattle.host_link.specs.Wants.{does_wants}
 use Rattle.host_state.specs.HostRecord.{HostRecord}
 use Rattle.host_link.specs.Link.{LinkState}
@@ -151,9 +151,9 @@ module _ (net : Net) (scope : Addr → Addr → Bool) (own : Ip) (n : ℕ) (othe
         after = refl;
       }
 
-  pub settled : (h : HostRecord) → IsGood own n h → H h (settles net h)
-  unfolding settles
-  settled h good =
+  pub did_wanted : (h : HostRecord) → IsGood own n h → H h (does_wanted net h)
+  unfolding does_wanted
+  did_wanted h good =
       wire_moves h (does_wants net h.row.address (wire_of h)) [] (λ p c. absurd (IsIn_from_Contains p [] c)) good
       (λ S c f.
       subst (λ (a : Ip). Wired net S own n [] (does_wants net a (wire_of h))) (sym good.address)

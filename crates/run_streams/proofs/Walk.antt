@@ -38,7 +38,7 @@ use Rattle.host_state.specs.Step.{Step}
 use Rattle.host_state.specs.Step as step
 use Rattle.host_state.specs.Arriving.{are_handed_over, goes_in, comes_to_router, comes_in, down_comes}
 use Rattle.host_state.specs.Fire.{begins, starts, ready, running_in, is_not_started, kept_by, runs_on, goes_if, goes, is_shut, shutdown_signal, shuts_if, shuts, rings, acts, wakes_if, would_answer, wakes_in, wakes, wakes_from, wakes_all, at_time, has_acted}
-use Rattle.host_state.specs.Host.{with_link, with_parts, on_wire, wire_of, settles}
+use Rattle.host_state.specs.Host.{with_link, with_parts, on_wire, wire_of, does_wanted}
 use Rattle.host_state.specs.HostRecord.{HostRecord}
 use Rattle.host_link.specs.Lanes.{with_down}
 use Rattle.host_link.specs.Link.{LinkState, makes, later, logs, comes_to}
@@ -51,7 +51,7 @@ use Rattle.run_streams.specs.Exchanges.{carried_by, waiting_in, packets_carried,
 use Rattle.run_streams.proofs.Every.{every_here, mapped}
 use Rattle.run_streams.proofs.Lanes.{EachWaits, PushFits, push_fits, release_fits}
 use Rattle.run_streams.proofs.Links.{FitsMade, carries_makes, carries_makes_if, carries_logs, carries_down, carries_drop_all, came_up}
-use Rattle.run_streams.proofs.Hosts.{IsGood, HostMoves, rests as stays_so, on, parts_move, link_moves, wire_moves, settled, narrowed}
+use Rattle.run_streams.proofs.Hosts.{IsGood, HostMoves, rests as stays_so, on, parts_move, link_moves, wire_moves, did_wanted, narrowed}
 use Rattle.run_streams.proofs.Handing.{handed, all_handed}
 
 by_option : {A B : Type 0} (P : B → Type 0) (f : Option A → B) (o : Option A) → P (f None) → ((a : A) → P (f (Some a))) → P (f o)
@@ -75,8 +75,8 @@ module _ (net : Net) (scope : Addr → Addr → Bool) (own : Ip) (n : ℕ) (othe
   stays : (h : HostRecord) → Good h → H h h
   stays h good = stays_so net scope own n others flying h good
 
-  settles_so : (h : HostRecord) → Good h → H h (settles net h)
-  settles_so h good = settled net scope own n others flying h good
+  does_wanted_so : (h : HostRecord) → Good h → H h (does_wanted net h)
+  does_wanted_so h good = did_wanted net scope own n others flying h good
 
   -- the sockets, the generator and the link are the same
   beside : (h k : HostRecord) (processes : List Process) → H h k → H h (record k { processes = processes })
@@ -117,9 +117,9 @@ module _ (net : Net) (scope : Addr → Addr → Bool) (own : Ip) (n : ℕ) (othe
       let r = call net.known h.link.time p number arguments h.parts in
       by_test (S h) (has_task p h.parts) _ _
       (λ e.
-      then h (with_parts r.1 h) (settles net (with_parts r.1 h))
+      then h (with_parts r.1 h) (does_wanted net (with_parts r.1 h))
       (parts_move net scope own n others flying h r.1 good (call_moves net.known (flying ++ link_packets h.link) h.link.time p number arguments h.parts))
-      (λ next. settles_so (with_parts r.1 h) next))
+      (λ next. does_wanted_so (with_parts r.1 h) next))
       (λ e. stays h good)
 
   closing : (p : ℕ) (h : HostRecord) → Good h → H h (closes net p h)
@@ -128,9 +128,9 @@ module _ (net : Net) (scope : Addr → Addr → Bool) (own : Ip) (n : ℕ) (othe
       let left = ended h.link.time p h.parts in
       by_test (H h) (has_task p h.parts) _ _
       (λ e.
-      then h (with_parts left h) (settles net (with_parts left h))
+      then h (with_parts left h) (does_wanted net (with_parts left h))
       (parts_move net scope own n others flying h left good (ended_moves net.known.book (flying ++ link_packets h.link) h.link.time p h.parts))
-      (λ next. settles_so (with_parts left h) next))
+      (λ next. does_wanted_so (with_parts left h) next))
       (λ e. stays h good)
 
   killing : (p : ℕ) (cause : Signal) (h : HostRecord) → Good h → S h (is_killed net p cause h)
@@ -220,9 +220,9 @@ module _ (net : Net) (scope : Addr → Addr → Bool) (own : Ip) (n : ℕ) (othe
   unfolding rings
   ringing target serial h good =
       let parts = alarmed h.link.time target serial h.parts in
-      then h (with_parts parts h) (settles net (with_parts parts h))
+      then h (with_parts parts h) (does_wanted net (with_parts parts h))
       (parts_move net scope own n others flying h parts good (alarmed_moves net.known.book (flying ++ link_packets h.link) h.link.time target serial h.parts))
-      (λ next. settles_so (with_parts parts h) next)
+      (λ next. does_wanted_so (with_parts parts h) next)
 
   -- ---- the end of a firing
 

@@ -16,7 +16,7 @@ use Rattle.shd_config.specs.Steps.{needed, through, mapping_line}
 use Rattle.shd_config.specs.Keys.{key_of}
 use Rattle.shd_config.specs.Values.{is_some_text}
 use Rattle.shd_config.specs.Notes.{notes}
-use Rattle.shd_config.specs.Host.{settled, no_options}
+use Rattle.shd_config.specs.Host.{completed, no_options}
 use Rattle.shd_config.specs.Config.{new_root, root_row, finished_root, root_of, merged_config, wrong_merge, config, kept}
 use Rattle.config_lines.specs.Shown.{shown}
 use Rattle.shd_config.specs.declared.config.Config.{Config}
@@ -107,7 +107,7 @@ said_with o c = record c {
   seed = unwrap_or o.seed c.seed;
   parallelism = unwrap_or o.parallelism c.parallelism;
   data_directory = unwrap_or o.data_directory c.data_directory;
-  hosts = map (settled no_options) (hosts_read (1 + hosts_line c) c.hosts);
+  hosts = map (completed no_options) (hosts_read (1 + hosts_line c) c.hosts);
   notes = notes (root_pairs c);
 }
 

@@ -31,7 +31,7 @@ use Rattle.shd_config.specs.Values.{is_within, ranged, may_stop_at, stop_time_at
 use Rattle.shd_config.specs.General.{general_key, general_row, overridden, finished_general, general_of, general_at, new_general}
 use Rattle.shd_config.specs.Process.{process_at, process_in, process_item, processes_at, texts_size}
 use Rattle.shd_config.specs.Network.{network_at}
-use Rattle.shd_config.specs.Host.{options_at, new_host, host_key, host_row, finished_host, host_of, host_at, hosts_row, hosts_at, settled}
+use Rattle.shd_config.specs.Host.{options_at, new_host, host_key, host_row, finished_host, host_of, host_at, hosts_row, hosts_at, completed}
 use Rattle.shd_config.specs.Config.{root, new_root, experimental_at, root_key, root_row, general_or, finished_root, root_of, merged_config, is_passed_over}
 use Rattle.shd_config.proofs.Walks.{Read, checked_has, below_has, needed_has, given_has, optional_has, kept_or_read, through_keeps, IsMore, AreMore, through_pushes}
 use Rattle.shd_config.specs.Limits.{MayStop, IsSomeText, HasFewProcesses, HasFewBytes, HaveFewBytes, MayOverride, IsWithinLimits}
@@ -197,13 +197,13 @@ length-map : {A B : Type 0} (f : A → B) (xs : List A) → length (map f xs) �
 length-map f [] = refl
 length-map f (x ∷ xs) = ap suc (length-map f xs)
 
-settled_within : (all : HostOptions) (hs : List HostRead) (c : Config) → c.hosts ≡ map (settled all) hs → AreHosts hs → MayStop c.stop_time → IsSomeText c.data_directory → IsWithinLimits c
-settled_within all hs c same h stop directory =
-    let count : length c.hosts ≡ length hs = ap (λ (l : List HostConfig). length l) same ∙ length-map (settled all) hs in
+completed_within : (all : HostOptions) (hs : List HostRead) (c : Config) → c.hosts ≡ map (completed all) hs → AreHosts hs → MayStop c.stop_time → IsSomeText c.data_directory → IsWithinLimits c
+completed_within all hs c same h stop directory =
+    let count : length c.hosts ≡ length hs = ap (λ (l : List HostConfig). length l) same ∙ length-map (completed all) hs in
     record {
       few = (omega (arith, h.0.0, count), omega (arith, h.0.1, count));
-      processes = subst (All HasFewProcesses) (sym same) (All-map HasFewProcesses (settled all) hs (All-weaker IsHost (λ x. HasFewProcesses (settled all x)) (λ x k. k.0) hs h.1));
-      texts = subst (All HaveFewBytes) (sym same) (All-map HaveFewBytes (settled all) hs (All-weaker IsHost (λ x. HaveFewBytes (settled all x)) (λ x k. k.1) hs h.1));
+      processes = subst (All HasFewProcesses) (sym same) (All-map HasFewProcesses (completed all) hs (All-weaker IsHost (λ x. HasFewProcesses (completed all x)) (λ x k. k.0) hs h.1));
+      texts = subst (All HaveFewBytes) (sym same) (All-map HaveFewBytes (completed all) hs (All-weaker IsHost (λ x. HaveFewBytes (completed all x)) (λ x k. k.1) hs h.1));
       stop = stop;
       directory = directory;
     }
@@ -232,7 +232,7 @@ module _ (o : Overrides) (may : MayOverride o) where
       then_has IsGeneral IsWithinLimits (general_or o line d.general) _ (general_or_has line d.general h.general)
       (λ general g. then_all IsWithinLimits (needed (codes "network") line d.network) _
       (λ network. then_has AreHosts IsWithinLimits (needed (codes "hosts") line d.hosts) _ (needed_has AreHosts (codes "hosts") line d.hosts h.hosts)
-      (λ hosts k. settled_within d.options hosts _ refl k g.stop g.directory)))
+      (λ hosts k. completed_within d.options hosts _ refl k g.stop g.directory)))
 
   root_of_has : (line : ℕ) (pairs : List Pair) → IfOk (root_of o line pairs) IsWithinLimits
   unfolding root_of

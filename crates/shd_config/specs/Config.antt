@@ -22,7 +22,7 @@ use Rattle.shd_config.specs.Keys.{key_of}
 use Rattle.shd_config.specs.Values.{mapping_at}
 use Rattle.shd_config.specs.General.{general_at, finished_general, new_general}
 use Rattle.shd_config.specs.Network.{network_at}
-use Rattle.shd_config.specs.Host.{options_at, hosts_at, settled, no_options}
+use Rattle.shd_config.specs.Host.{options_at, hosts_at, completed, no_options}
 use Rattle.shd_config.specs.Notes.{notes}
 
 abbrev pub new_root : RootDraft
@@ -69,7 +69,7 @@ finished_root o told line d = do
     graph = network.graph;
     use_shortest_path = network.use_shortest_path;
     router_queue = network.router_queue;
-    hosts = map (settled d.options) hosts;
+    hosts = map (completed d.options) hosts;
     notes = told;
   })
 

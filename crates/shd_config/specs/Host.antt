@@ -95,8 +95,8 @@ hosts_at p = do
 abbrev pub chosen : {A : Type 0} → Option A → Option A → A → A
 chosen own all default = unwrap_or own (unwrap_or all default)
 
-abbrev pub settled : HostOptions → HostRead → HostConfig
-settled all h = record {
+abbrev pub completed : HostOptions → HostRead → HostConfig
+completed all h = record {
   name = h.name;
   line = h.line;
   network_node_id = h.network_node_id;

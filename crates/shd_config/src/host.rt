@@ -3,7 +3,7 @@
 ghost use Rattle.std.specs.Prelude.{◌≡◌, [], map, unwrap_or, IfOk};
 ghost use Rattle.shd_config.specs.Values.{is_within};
 ghost use Rattle.shd_config.specs.Steps.{Gives, Sets, GivesSeen, through};
-ghost use Rattle.shd_config.specs.Host.{no_options, new_host, host_key, host_row, finished_host, host_of, host_at, hosts_row, hosts_at, chosen, settled};
+ghost use Rattle.shd_config.specs.Host.{no_options, new_host, host_key, host_row, finished_host, host_of, host_at, hosts_row, hosts_at, chosen, completed};
 
 use crate::config::HostConfig;
 use crate::fault::{ConfigError, ConfigKind};
@@ -218,8 +218,8 @@ pub fn read_hosts(alloc: Global, pair: &Pair) -> Result<HostsRead, ConfigError>
 /// The bytes of a packet that are kept where no option says it.
 pub const CAPTURE_SIZE: u32 = 65_535;
 
-fn settle(all: HostOptions, host: HostRead) -> HostConfig
-    ensures { result ≡ settled all host }
+fn complete(all: HostOptions, host: HostRead) -> HostConfig
+    ensures { result ≡ completed all host }
 {
     let HostRead {
         name,
@@ -249,12 +249,12 @@ fn settle(all: HostOptions, host: HostRead) -> HostConfig
 }
 
 /// Hosts with the options of all hosts where they give none.
-pub fn settle_all(alloc: Global, all: HostOptions, hosts: HostsRead) -> Result<Hosts, AllocError>
-    ensures { IfOk result (λ settled_hosts. settled_hosts ≡ map (settled all) hosts) }
+pub fn complete_all(alloc: Global, all: HostOptions, hosts: HostsRead) -> Result<Hosts, AllocError>
+    ensures { IfOk result (λ completed_hosts. completed_hosts ≡ map (completed all) hosts) }
 {
-    let mut settled = Vec::new(alloc);
+    let mut completed = Vec::new(alloc);
     for host in hosts.into_vec() {
-        settled.push(settle(all, host))?;
+        completed.push(complete(all, host))?;
     }
-    Ok(Hosts::from(settled))
+    Ok(Hosts::from(completed))
 }

@@ -14,7 +14,7 @@ ghost use Rattle.shd_config.specs.Config.{experimental_at, new_root, root_key, r
 use crate::config::Config;
 use crate::fault::{ConfigError, ConfigFault, ConfigKind};
 use crate::general::{General, finish_general, new_general, read_general};
-use crate::host::{HostsRead, read_hosts, settle_all};
+use crate::host::{HostsRead, complete_all, read_hosts};
 use crate::key::{Key, key_of};
 use crate::network::{Network, read_network};
 use crate::notes::notes_of;
@@ -181,7 +181,7 @@ fn finish_root(
         graph: network.graph,
         use_shortest_path: network.use_shortest_path,
         router_queue: network.router_queue,
-        hosts: settle_all(alloc, draft.options, hosts)?,
+        hosts: complete_all(alloc, draft.options, hosts)?,
         notes,
     })
 }

@@ -111,15 +111,15 @@ without_local : (place : ℕ) (l : Listen) → (listener.without place l).local 
 unfolding listener.without
 without_local place l = refl
 
-settled_local : (place : ℕ) (before : Bool) (r : Tcb) (l : Listen) → (listener.requeued place before r l).local ≡ l.local
+requeued_local : (place : ℕ) (before : Bool) (r : Tcb) (l : Listen) → (listener.requeued place before r l).local ≡ l.local
 unfolding listener.requeued
-settled_local place before r l =
+requeued_local place before r l =
     listen_by r.control.was_established _ _ l.local (listen_by before l (listener.waits place l) l.local refl refl)
     (listen_by (is_over r.control.state) (listener.without place l) l l.local (without_local place l) refl)
 
 acts_local : (act : Turn → Turn) (place : ℕ) (o : Option Tcb) (l : Listen) (otherwise : Heard) → otherwise.listen.local ≡ l.local → (listener.record_acts act place o l otherwise).listen.local ≡ l.local
 acts_local act place None l otherwise e = e
-acts_local act place (Some r) l otherwise e = settled_local place r.control.was_established (act (begin r)).tcb (listener.replaced place (act (begin r)).tcb l)
+acts_local act place (Some r) l otherwise e = requeued_local place r.control.was_established (act (begin r)).tcb (listener.replaced place (act (begin r)).tcb l)
 
 kept_local : (act : Turn → Turn) (own other : Addr) (l : Listen) (otherwise : Heard) → otherwise.listen.local ≡ l.local → (listener.kept_acts act own other l otherwise).listen.local ≡ l.local
 unfolding listener.kept_acts

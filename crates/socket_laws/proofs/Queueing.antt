@@ -154,9 +154,9 @@ keeps_without l place h = record {
 }
 
 -- an act on a record
-keeps_settled : (l : Listen) (place : ℕ) (r old : Tcb) → Keeps l → slice_get l.records place ≡ Some old → Waiting r → (old.control.was_established ≡ true → r.control.was_established ≡ true) → Keeps (requeued place old.control.was_established r (replaced place r l))
+keeps_requeued : (l : Listen) (place : ℕ) (r old : Tcb) → Keeps l → slice_get l.records place ≡ Some old → Waiting r → (old.control.was_established ≡ true → r.control.was_established ≡ true) → Keeps (requeued place old.control.was_established r (replaced place r l))
 unfolding requeued
-keeps_settled l place r old h at w stays =
+keeps_requeued l place r old h at w stays =
     let k = keeps_replaced l place r old h at w stays in
     by_test Keeps r.control.was_established _ _
     (λ e. by_test Keeps old.control.was_established _ _ (λ b. k) (λ b. keeps_waits (replaced place r l) place k (r, (slice_get_set l.records place old r at, e))))
@@ -169,7 +169,7 @@ keeps_acts : (act : Turn → Turn) (l : Listen) (place : ℕ) (o : Option Tcb) (
 keeps_acts act l place None otherwise minds h else_h at = else_h
 keeps_acts act l place (Some r) otherwise minds h else_h at =
     let after = minds r (h.records place r at) in
-    keeps_settled l place (act (begin r)).tcb r h at after.0 after.1
+    keeps_requeued l place (act (begin r)).tcb r h at after.0 after.1
 
 keeps_kept : (act : Turn → Turn) (own other : Addr) (l : Listen) (otherwise : Heard) → Minds act → Keeps l → Keeps otherwise.listen → Keeps (kept_acts act own other l otherwise).listen
 unfolding kept_acts

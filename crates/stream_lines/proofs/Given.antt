@@ -28,7 +28,7 @@ use Rattle.shd_config.specs.Values.{is_within, ranged, scalar_at, mapping_at, nu
 use Rattle.shd_config.specs.General.{general_at}
 use Rattle.shd_config.specs.Process.{processes_at}
 use Rattle.shd_config.specs.Network.{network_at}
-use Rattle.shd_config.specs.Host.{options_at, new_host, host_key, host_row, finished_host, host_of, host_at, hosts_row, hosts_at, settled}
+use Rattle.shd_config.specs.Host.{options_at, new_host, host_key, host_row, finished_host, host_of, host_at, hosts_row, hosts_at, completed}
 use Rattle.shd_config.specs.Config.{root, new_root, experimental_at, root_key, root_row, general_or, finished_root, root_of, merged_config, wrong_merge, config, is_passed_over}
 use Rattle.shd_config.proofs.Walks.{checked_has, below_has, needed_has, optional_has, kept_or_read, through_keeps, IsMore, AreMore, through_pushes}
 use Rattle.run_plan.specs.SelfLoad.{ring_host, self_load_config}
@@ -120,12 +120,12 @@ length-map : {A B : Type 0} (f : A → B) (xs : List A) → length (map f xs) �
 length-map f [] = refl
 length-map f (x ∷ xs) = ap suc (length-map f xs)
 
-settled_has : (all : HostOptions) (hosts : List HostRead) (c : Config) → c.hosts ≡ map (settled all) hosts → AreHosts hosts → HasHosts c
-settled_has all hosts c same h =
-    let count : length c.hosts ≡ length hosts = ap (λ (l : List HostConfig). length l) same ∙ length-map (settled all) hosts in
+completed_has : (all : HostOptions) (hosts : List HostRead) (c : Config) → c.hosts ≡ map (completed all) hosts → AreHosts hosts → HasHosts c
+completed_has all hosts c same h =
+    let count : length c.hosts ≡ length hosts = ap (λ (l : List HostConfig). length l) same ∙ length-map (completed all) hosts in
     record {
       few = (let few = h.few in omega (arith, few, count));
-      each = subst (All MayHaveAddress) (sym same) (All-map MayHaveAddress (settled all) hosts (All-weaker IsHost (λ x. MayHaveAddress (settled all x)) (λ x k. k) hosts h.each));
+      each = subst (All MayHaveAddress) (sym same) (All-map MayHaveAddress (completed all) hosts (All-weaker IsHost (λ x. MayHaveAddress (completed all x)) (λ x k. k) hosts h.each));
     }
 
 module _ (o : Overrides) where
@@ -142,7 +142,7 @@ module _ (o : Overrides) where
       then_all HasHosts (general_or o line d.general) _
       (λ general. then_all HasHosts (needed (codes "network") line d.network) _
       (λ network. then_has AreHosts HasHosts (needed (codes "hosts") line d.hosts) _ (needed_has AreHosts (codes "hosts") line d.hosts h)
-      (λ hosts k. settled_has d.options hosts _ refl k)))
+      (λ hosts k. completed_has d.options hosts _ refl k)))
 
   root_of_has : (line : ℕ) (pairs : List Pair) → IfOk (root_of o line pairs) HasHosts
   unfolding root_of

@@ -30,7 +30,7 @@ use Rattle.shd_config.specs.Values.{mapping_at, number_at, rate_at, address_at, 
 use Rattle.shd_config.specs.General.{finished_general, general_at, new_general}
 use Rattle.shd_config.specs.Network.{network_at}
 use Rattle.shd_config.specs.Process.{processes_at}
-use Rattle.shd_config.specs.Host.{no_options, options_at, new_host, host_key, host_row, finished_host, host_of, host_at, hosts_row, hosts_at, chosen, settled}
+use Rattle.shd_config.specs.Host.{no_options, options_at, new_host, host_key, host_row, finished_host, host_of, host_at, hosts_row, hosts_at, chosen, completed}
 use Rattle.shd_config.specs.Config.{root, new_root, experimental_at, root_key, root_row, general_or, finished_root, root_of, merged_config, wrong_merge, config, is_passed_over}
 use Rattle.shown_config.specs.Plain.{AreApart, IsPlainProcess, IsRate, IsPlainHost, IsPlain}
 use Rattle.shown_config.specs.Same.{AreOverrides}
@@ -140,8 +140,8 @@ hosts_has p g =
 capture : (own all : Option ℕ) → IfSome own IsCapture → IfSome all IsCapture → IsCapture (chosen own all 65535)
 capture own all h k = or_default_has IsCapture own (unwrap_or all 65535) h (or_default_has IsCapture all 65535 k (omega arith, omega arith))
 
-settled_plain : (all : HostOptions) (h : HostRead) → ArePlainOptions all → IsPlainRead h → IsPlainHost (settled all h)
-settled_plain all h a p = record {
+completed_plain : (all : HostOptions) (h : HostRead) → ArePlainOptions all → IsPlainRead h → IsPlainHost (completed all h)
+completed_plain all h a p = record {
   name = p.name;
   node = p.node;
   address = p.address;
@@ -152,17 +152,17 @@ settled_plain all h a p = record {
   processes = All-from_recursion IsPlainProcess h.processes p.processes.1;
 }
 
-all_settled : (all : HostOptions) (hs : List HostRead) → ArePlainOptions all → AllByRecursion IsPlainRead hs → AllByRecursion IsPlainHost (map (settled all) hs)
-all_settled all [] a h = tt
-all_settled all (x ∷ hs) a h = (settled_plain all x a h.0, all_settled all hs a h.1)
+all_completed : (all : HostOptions) (hs : List HostRead) → ArePlainOptions all → AllByRecursion IsPlainRead hs → AllByRecursion IsPlainHost (map (completed all) hs)
+all_completed all [] a h = tt
+all_completed all (x ∷ hs) a h = (completed_plain all x a h.0, all_completed all hs a h.1)
 
-length_settled : (all : HostOptions) (hs : List HostRead) → length (map (settled all) hs) ≡ length hs
-length_settled all [] = refl
-length_settled all (h ∷ hs) = ap suc (length_settled all hs)
+length_completed : (all : HostOptions) (hs : List HostRead) → length (map (completed all) hs) ≡ length hs
+length_completed all [] = refl
+length_completed all (h ∷ hs) = ap suc (length_completed all hs)
 
-names_settled : (all : HostOptions) (hs : List HostRead) → map (λ h. h.name) (map (settled all) hs) ≡ map (λ h. h.name) hs
-names_settled all [] = refl
-names_settled all (h ∷ hs) = ap (λ names. h.name ∷ names) (names_settled all hs)
+names_completed : (all : HostOptions) (hs : List HostRead) → map (λ h. h.name) (map (completed all) hs) ≡ map (λ h. h.name) hs
+names_completed all [] = refl
+names_completed all (h ∷ hs) = ap (λ names. h.name ∷ names) (names_completed all hs)
 
 -- ---- the root
 
@@ -198,9 +198,9 @@ module _ (o : Overrides) (may : AreOverrides o) where
       absent false line = tt
 
   plain_by : (general : General) (network : Network) (hosts : List HostRead) (all : HostOptions) (told : List (List ℕ)) → IsPlainGeneral general → IsPlainNetwork network → ArePlainReads hosts → ArePlainOptions all
-      → IsPlain (record { stop_time = general.stop_time; seed = general.seed; parallelism = general.parallelism; bootstrap_end_time = general.bootstrap_end_time; data_directory = general.data_directory; graph = network.graph; use_shortest_path = network.use_shortest_path; router_queue = network.router_queue; hosts = map (settled all) hosts; notes = told })
+      → IsPlain (record { stop_time = general.stop_time; seed = general.seed; parallelism = general.parallelism; bootstrap_end_time = general.bootstrap_end_time; data_directory = general.data_directory; graph = network.graph; use_shortest_path = network.use_shortest_path; router_queue = network.router_queue; hosts = map (completed all) hosts; notes = told })
   plain_by general network hosts all told g n h a =
-      let count = length_settled all hosts in
+      let count = length_completed all hosts in
       record {
         stop = g.stop;
         seed = g.seed;
@@ -210,8 +210,8 @@ module _ (o : Overrides) (may : AreOverrides o) where
         named = g.named;
         graph = n;
         few = (omega (arith, h.few, count), omega (arith, h.few, count));
-        hosts = All-from_recursion IsPlainHost (map (settled all) hosts) (all_settled all hosts a h.each);
-        apart = subst AreApart (sym (names_settled all hosts)) h.apart;
+        hosts = All-from_recursion IsPlainHost (map (completed all) hosts) (all_completed all hosts a h.each);
+        apart = subst AreApart (sym (names_completed all hosts)) h.apart;
       }
 
   finished_root_has : (told : List (List ℕ)) (line : ℕ) (d : RootDraft) → IsRoot d → IfOk (finished_root o told line d) IsPlain

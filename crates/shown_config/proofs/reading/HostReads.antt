@@ -18,7 +18,7 @@ use Rattle.shd_config.specs.Steps.{valued, checked, below, through, mapping_line
 use Rattle.shd_config.specs.Keys.{key_of}
 use Rattle.shd_config.specs.Values.{mapping_at, scalar_at, ranged, is_within, address_at, may_be_host}
 use Rattle.shd_config.specs.Process.{processes_at}
-use Rattle.shd_config.specs.Host.{no_options, options_at, new_host, host_row, finished_host, host_of, host_at, hosts_row, hosts_at, settled}
+use Rattle.shd_config.specs.Host.{no_options, options_at, new_host, host_row, finished_host, host_of, host_at, hosts_row, hosts_at, completed}
 use Rattle.config_lines.specs.Shown.{shown_address}
 use Rattle.shown_config.specs.Plain.{IsRate, IsPlainProcess, IsPlainHost}
 use Rattle.shown_config.specs.Same.{without_line}
@@ -151,14 +151,14 @@ hosts_reads n hs some few p =
 
 -- ---- the same hosts
 
-settled_by : (enabled all : Bool) (n size : ℕ) (h : HostConfig) → (size == 65535) ≡ all
-    → without_line (settled no_options (record { name = h.name; line = n; network_node_id = h.network_node_id; ip_addr = h.ip_addr; bandwidth_up = h.bandwidth_up; bandwidth_down = h.bandwidth_down; options = read_options enabled all size; processes = h.processes }))
+completed_by : (enabled all : Bool) (n size : ℕ) (h : HostConfig) → (size == 65535) ≡ all
+    → without_line (completed no_options (record { name = h.name; line = n; network_node_id = h.network_node_id; ip_addr = h.ip_addr; bandwidth_up = h.bandwidth_up; bandwidth_down = h.bandwidth_down; options = read_options enabled all size; processes = h.processes }))
     ≡ record h { line = 0; pcap_enabled = enabled; pcap_capture_size = size }
-settled_by false true n size h e = ap (λ (k : ℕ). record h { line = 0; pcap_enabled = false; pcap_capture_size = k }) (sym (eqb-true size 65535 e))
-settled_by false false n size h e = refl
-settled_by true true n size h e = ap (λ (k : ℕ). record h { line = 0; pcap_enabled = true; pcap_capture_size = k }) (sym (eqb-true size 65535 e))
-settled_by true false n size h e = refl
+completed_by false true n size h e = ap (λ (k : ℕ). record h { line = 0; pcap_enabled = false; pcap_capture_size = k }) (sym (eqb-true size 65535 e))
+completed_by false false n size h e = refl
+completed_by true true n size h e = ap (λ (k : ℕ). record h { line = 0; pcap_enabled = true; pcap_capture_size = k }) (sym (eqb-true size 65535 e))
+completed_by true false n size h e = refl
 
-pub hosts_same : (n : ℕ) (hs : List HostConfig) → map without_line (map (settled no_options) (hosts_read n hs)) ≡ map without_line hs
+pub hosts_same : (n : ℕ) (hs : List HostConfig) → map without_line (map (completed no_options) (hosts_read n hs)) ≡ map without_line hs
 hosts_same n [] = refl
-hosts_same n (h ∷ hs) = λ i. settled_by h.pcap_enabled (h.pcap_capture_size == 65535) n h.pcap_capture_size h refl i ∷ hosts_same (after_block (1 + n) (host_block h)) hs i
+hosts_same n (h ∷ hs) = λ i. completed_by h.pcap_enabled (h.pcap_capture_size == 65535) n h.pcap_capture_size h refl i ∷ hosts_same (after_block (1 + n) (host_block h)) hs i

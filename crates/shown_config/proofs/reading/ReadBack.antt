@@ -14,7 +14,7 @@ use Rattle.yaml_merge.proofs.MergeLaws.{free_fixed}
 use Rattle.shd_config.specs.Steps.{through, mapping_line}
 use Rattle.shd_config.specs.Keys.{key_of}
 use Rattle.shd_config.specs.Notes.{notes}
-use Rattle.shd_config.specs.Host.{settled, no_options}
+use Rattle.shd_config.specs.Host.{completed, no_options}
 use Rattle.shd_config.specs.Config.{new_root, root_row, finished_root, root_of, merged_config, wrong_merge, config, kept}
 use Rattle.config_lines.specs.Shown.{shown}
 use Rattle.shd_config.specs.declared.config.Config.{Config}
@@ -50,7 +50,7 @@ root_through c h =
 
 -- what is read again
 abbrev again : Config → Config
-again c = record c { hosts = map (settled no_options) (hosts_read (1 + hosts_line c) c.hosts); notes = notes (root_pairs c) }
+again c = record c { hosts = map (completed no_options) (hosts_read (1 + hosts_line c) c.hosts); notes = notes (root_pairs c) }
 
 root_reads : (c : Config) (line : ℕ) → IsPlain c → root_of no_overrides line (root_pairs c) ≡ Ok (again c)
 unfolding root_of

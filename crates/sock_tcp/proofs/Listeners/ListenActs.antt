@@ -22,7 +22,7 @@ use Rattle.sock_tcp.specs.listener.ListensFor.{ListensFor, Tells}
 use Rattle.sock_tcp.proofs.Connections.Places.{same_length, record_at, stands_at, stands_set, stands_push, stands_remove, slice_get_set}
 use Rattle.sock_tcp.proofs.Listeners.QueuePlaces.{below_set, below_push, below_removed}
 
--- the branches of settling
+-- the branches of requeueing
 requeued_established : (place : ℕ) (before : Bool) (r : Tcb) (l : Listen) → r.control.was_established ≡ true → requeued place before r l ≡ (if before then l else waits place l)
 unfolding requeued
 requeued_established place before r l e =
@@ -68,7 +68,7 @@ listens_waits k k' l place h b local limit records queue =
     (queue ∙ ap (λ xs. xs ++ place ∷ []) h.accept_queue)
     (All-push (λ at. at < length l.records) l.accept_queue place h.places (omega (arith, same_length k.records.items l.records h.records)))
 
--- settling
+-- requeueing
 pub requeues_waits : (k k' : Listener) (l : Listen) (place : ℕ) (before : Bool) (r : Tcb) (control : Control) → ListensFor k l → control ≡ r.control → control.was_established ≡ true → before ≡ false → place < length k.records.items → k'.local ≡ k.local → k'.limit ≡ k.limit → k'.records.items ≡ k.records.items → k'.accept_queue.items ≡ k.accept_queue.items ++ place ∷ [] → ListensFor k' (requeued place before r l)
 requeues_waits k k' l place before r control h c e f b local limit records queue =
     let e' : r.control.was_established ≡ true = sym (ap (λ x. x.was_established) c) ∙ e in

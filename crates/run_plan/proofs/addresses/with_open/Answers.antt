@@ -6,23 +6,23 @@ use Rattle.run_plan.specs.inside.Room.{NextAddress}
 use Rattle.run_plan.proofs.AddressLemmas.{one_more, few_from}
 use Rattle.run_plan.proofs.addresses.with_open.Goals as goal
 
-pub address_host-settled-requires : goal.address_host-settled-requires
-address_host-settled-requires c = omega (arith, few_from c.args.given.now first_address)
+pub address_host-addressed-requires : goal.address_host-addressed-requires
+address_host-addressed-requires c = omega (arith, few_from c.args.given.now first_address)
 
 pub loop-host-preserved : goal.loop-host-preserved
 loop-host-preserved c =
     let xs : List (Option Ip) = c.args.hosts.now in
     let i : ℕ = c.loop-host.host-index in
     let at : drop i xs ≡ get_or xs i None ∷ drop (i + 1) xs = drop_more xs i None c.loop-host-test.true in
-    let told : NextAddress c.args.given.now c.loop-host.next c.address_host-settled.result.next (get_or xs i None) c.address_host-settled.result.address = c.address_host-settled.ensures.address in
+    let told : NextAddress c.args.given.now c.loop-host.next c.address_host-addressed.result.next (get_or xs i None) c.address_host-addressed.result.address = c.address_host-addressed.ensures.address in
     record {
-      room = omega (arith, c.address_host-settled.ensures.room);
+      room = omega (arith, c.address_host-addressed.ensures.room);
       goes_on = λ rest more.
           subst (λ (v : List Ip). AreAddressesFrom c.args.given.now first_address xs v)
-          (sym (ap (λ (v : List Ip). v ++ rest) c.in_ok-push.ensures.items ∙ append_assoc c.loop-host.addresses.items (c.address_host-settled.result.address ∷ []) rest))
-          (c.loop-host.invariant.goes_on (c.address_host-settled.result.address ∷ rest)
-          (subst (λ (hs : List (Option Ip)). AreAddressesFrom c.args.given.now c.loop-host.next hs (c.address_host-settled.result.address ∷ rest)) (sym at)
-          (one_more c.args.given.now c.loop-host.next c.address_host-settled.result.next (get_or xs i None) c.address_host-settled.result.address (drop (i + 1) xs) rest told more)));
+          (sym (ap (λ (v : List Ip). v ++ rest) c.in_ok-push.ensures.items ∙ append_assoc c.loop-host.addresses.items (c.address_host-addressed.result.address ∷ []) rest))
+          (c.loop-host.invariant.goes_on (c.address_host-addressed.result.address ∷ rest)
+          (subst (λ (hs : List (Option Ip)). AreAddressesFrom c.args.given.now c.loop-host.next hs (c.address_host-addressed.result.address ∷ rest)) (sym at)
+          (one_more c.args.given.now c.loop-host.next c.address_host-addressed.result.next (get_or xs i None) c.address_host-addressed.result.address (drop (i + 1) xs) rest told more)));
     }
 
 pub returns : goal.returns

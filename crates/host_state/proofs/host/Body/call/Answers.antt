@@ -19,5 +19,5 @@ returns c =
     let r : c.has_task.result ≡ true = search rules in sym c.has_task.ensures.is ∙ r in
     let known : c.net.inside.known ≡ c.args.net.now.known = ap (λ (n : Net). n.known) c.net.view_is in
     let P : Known → Type 0 = λ k. (q : PartsRecord) → PartsStand c.args.self.now.parts q → PartsCalled (call k c.now-now.result c.args.process c.args.number c.args.arguments q) c.in_ok-answer.answer c.do_call.new.parts in
-    called c.args.net.now c.args.process c.args.number c.args.arguments c.args.cpu.now c.args.self.now c.settle.new.self c.now-now.result c.in_ok-answer.answer c.do_call.new.parts
-    (step_with c.next_of.result c.next_of.new.cpu) there c.now-now.ensures.time (subst P known c.in_ok-answer.ensures) c.in_ok-settle.ensures c.next_of.ensures
+    called c.args.net.now c.args.process c.args.number c.args.arguments c.args.cpu.now c.args.self.now c.do_wanted.new.self c.now-now.result c.in_ok-answer.answer c.do_call.new.parts
+    (step_with c.next_of.result c.next_of.new.cpu) there c.now-now.ensures.time (subst P known c.in_ok-answer.ensures) c.in_ok-do_wanted.ensures c.next_of.ensures

@@ -12,5 +12,5 @@ pub returns : goal.returns
 returns c =
     let there : nat_lt c.args.process (length c.args.self.now.parts.tasks.items) ≡ true =
     let r : c.has_task.result ≡ true = search rules in sym c.has_task.ensures.is ∙ r in
-    closed c.args.net.now c.args.process c.args.self.now c.settle.new.self c.now-now.result c.close_all.new.parts
-    there c.now-now.ensures.time c.in_ok-close_all.ensures c.in_ok-settle.ensures
+    closed c.args.net.now c.args.process c.args.self.now c.do_wanted.new.self c.now-now.result c.close_all.new.parts
+    there c.now-now.ensures.time c.in_ok-close_all.ensures c.in_ok-do_wanted.ensures
