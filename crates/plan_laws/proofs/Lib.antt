@@ -1,0 +1,13 @@
+pub mod Addressed
+pub mod Bests
+pub mod Following
+pub mod Graphs
+pub mod Lacks
+pub mod Lookaheads
+pub mod Orders
+pub mod Routed
+pub mod Tables
+pub mod Trees
+pub mod Walks
+pub mod Ways
+pub mod Whole
