@@ -1,0 +1,4 @@
+pub mod CaptureLines
+pub mod Plans
+pub mod Worlds
+pub mod Shown
