@@ -4,3 +4,4 @@ pub mod Acting
 pub mod Sweeping
 pub mod Firing
 pub mod Turning
+pub mod Walks
