@@ -1,13 +1,12 @@
 -- what holds of each element of a list
 use Rattle.std.proofs.Common.{◌≡◌, ◌≢◌, Bool, true, false, cond, arith, ◌⊎◌, inl, inr, ⊎_elim, ℕ, zero, suc, List, [], ◌∷◌, ◌++◌, map, filter_map, flat_map, set, Contains, Option, Some, None, slice_get, refl, sym, ap, subst}
-use Rattle.std.specs.List.{filter}
+use Rattle.std.specs.List.{AllByRecursion, filter}
 use Rattle.std.proofs.lemmas.List.Elements.{Contains-append_left, Contains-append_right, Contains-append_cases}
 use Rattle.tcp_streams.proofs.Members.{IsIn, IsIn_from_Contains, Contains_from_IsIn, Contains_here, Contains_there, Contains_cases}
 
 module _ {X : Type 0} where
   abbrev pub Every : (X → Type 0) → List X → Type 0
-  Every P [] = Unit {0}
-  Every P (x ∷ xs) = P x × Every P xs
+  Every P xs = AllByRecursion P xs
 
   pub every_append : (P : X → Type 0) (xs ys : List X) → Every P xs → Every P ys → Every P (xs ++ ys)
   every_append P [] ys h k = k

@@ -1,5 +1,5 @@
 -- packets that are handed to a host's sockets
-use Rattle.std.proofs.Common.{ℕ, Bool, List, [], ◌∷◌, ◌++◌, Contains}
+use Rattle.std.proofs.Common.{ℕ, Bool, List, ◌++◌, Contains}
 use Rattle.std.proofs.lemmas.List.Elements.{Contains-append_left}
 use Rattle.sim_base.specs.declared.address.Ip.{Ip}
 use Rattle.sim_base.specs.declared.address.Addr.{Addr}
@@ -7,15 +7,14 @@ use Rattle.sim_base.specs.declared.packet.Packet.{Packet}
 use Rattle.sock_tcp.specs.connection.Tcb.{Tcb}
 use Rattle.host_calls.specs.Events.{arrives}
 use Rattle.host_link.specs.Net.{Net}
-use Rattle.host_state.specs.Arriving.{is_handed_over, are_handed_over}
+use Rattle.host_state.specs.Arriving.{is_handed_over}
 use Rattle.host_state.specs.Host.{with_link, with_parts}
 use Rattle.host_state.specs.HostRecord.{HostRecord}
 use Rattle.host_link.specs.Link.{LinkState, logs}
 use Rattle.call_streams.proofs.Table.{arrives_moves}
 use Rattle.run_streams.specs.Exchanges.{link_packets}
-use Rattle.run_streams.proofs.Every.{Every}
 use Rattle.run_streams.proofs.Links.{carries_logs}
-use Rattle.run_streams.proofs.Hosts.{IsGood, HostMoves, rests, on, parts_move, link_moves, did_wanted}
+use Rattle.run_streams.proofs.Hosts.{IsGood, HostMoves, on, parts_move, link_moves, did_wanted}
 
 module _ (net : Net) (scope : Addr → Addr → Bool) (own : Ip) (n : ℕ) (others : List Tcb) (flying : List Packet) where
   abbrev H : HostRecord → HostRecord → Type 0
@@ -37,9 +36,3 @@ module _ (net : Net) (scope : Addr → Addr → Bool) (own : Ip) (n : ℕ) (othe
       (arrives_moves net.known.book (flying ++ link_packets m) h.link.time packet h.parts
       (Contains-append_left flying (link_packets m) packet c)))
       (λ b. did_wanted net scope own n others flying arrived b))
-
-  pub all_handed : (packets : List Packet) (h : HostRecord) → Every (λ p. Contains flying p) packets → IsGood own n h → H h (are_handed_over net packets h)
-  unfolding are_handed_over
-  all_handed [] h each good = rests net scope own n others flying h good
-  all_handed (p ∷ ps) h each good =
-      then h (is_handed_over net p h) _ (handed p h each.0 good) (λ next. all_handed ps (is_handed_over net p h) each.1 next)

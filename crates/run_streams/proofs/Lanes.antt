@@ -5,10 +5,10 @@ use Rattle.sim_base.specs.declared.packet.Packet.{Packet}
 use Rattle.sim_base.specs.declared.time.Time.{Time}
 use Rattle.net_iface.specs.declared.lane.TheConstants.{WAITING}
 use Rattle.net_iface.specs.declared.lane.Pushed.{Pushed}
-use Rattle.net_iface.specs.declared.lane.Pushed.TheVariants.{Leaves, Waits, Dropped}
 use Rattle.net_iface.specs.declared.lane.Waiting.{Waiting}
 use Rattle.net_iface.specs.Lane.{LaneState, Left, waiting_size, lane_at, pushed_first, pushed_behind, pushed_on, pushed, taken_front, with_rest, with_taken, leaving, released}
 use Rattle.tcp_laws.proofs.Tests.{by_test}
+use Rattle.host_laws.proofs.Walks.{PushIs}
 use Rattle.run_streams.proofs.Every.{Every, every_append}
 
 module _ (P : Packet → Type 0) where
@@ -16,9 +16,7 @@ module _ (P : Packet → Type 0) where
   EachWaits ws = Every (λ (w : Waiting). P w.packet) ws
 
   abbrev pub PushFits : Pushed → Type 0
-  PushFits (Leaves packet) = P packet
-  PushFits (Waits due) = Unit {0}
-  PushFits (Dropped packet) = P packet
+  PushFits t = PushIs P t
 
   abbrev pub HasPushed : Pushed × LaneState → Type 0
   HasPushed t = PushFits t.0 × EachWaits t.1.waiting
