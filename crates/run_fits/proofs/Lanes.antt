@@ -5,7 +5,7 @@ use Rattle.net_iface.specs.Lane.{LaneState, Left, lane_at, leaving, pushed, push
 use Rattle.net_iface.specs.declared.lane.TheConstants.{WAITING}
 use Rattle.net_iface.specs.declared.lane.Waiting.{Waiting}
 use Rattle.net_iface.specs.declared.lane.Pushed.{Pushed}
-use Rattle.net_iface.specs.declared.lane.Pushed.TheVariants.{Dropped, Leaves, Waits}
+use Rattle.host_laws.proofs.Walks.{PushIs}
 use Rattle.pcap_text.specs.Laws.{IsWhole}
 use Rattle.run_fits.proofs.Bytes.{all_append}
 use Rattle.run_fits.specs.Packets.{AreWhole}
@@ -18,13 +18,8 @@ abbrev pub AllWait : List Waiting → Type 0
 AllWait waiting = AllByRecursion (λ (w : Waiting). IsWhole w.packet) waiting
 
 -- what a push gives, also what it drops
-abbrev pub PushWhole : Pushed → Type 0
-PushWhole (Leaves p) = IsWhole p
-PushWhole (Waits due) = Unit {0}
-PushWhole (Dropped p) = IsWhole p
-
 abbrev pub PushFits : Pushed × LaneState → Type 0
-PushFits t = PushWhole t.0 × AllWait t.1.waiting
+PushFits t = PushIs IsWhole t.0 × AllWait t.1.waiting
 
 waits_behind : (ws : List Waiting) (w : Waiting) → AllWait ws → IsWhole w.packet → AllWait (ws ++ w ∷ [])
 waits_behind ws w h whole = all_append (λ (x : Waiting). IsWhole x.packet) ws (w ∷ []) h (whole, tt)

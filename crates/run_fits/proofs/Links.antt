@@ -1,8 +1,9 @@
 -- what acts leave of a link: lanes, events and lines of whole packets
-use Rattle.std.proofs.Common.{Bool, List, None, Option, Some, [], nat_le, nat_lt, ℕ, ◌||◌, ◌∷◌}
+use Rattle.std.proofs.Common.{Bool, List, [], None, Option, Some, nat_le, nat_lt, ℕ, ◌||◌, ◌∷◌}
 use Rattle.pcap_text.specs.Laws.{IsWhole}
 use Rattle.run_fits.proofs.Bytes.{all_append}
-use Rattle.run_fits.proofs.Lanes.{AllWait, PushWhole, left_whole, pushed_whole}
+use Rattle.host_laws.proofs.Walks.{PushIs}
+use Rattle.run_fits.proofs.Lanes.{AllWait, left_whole, pushed_whole}
 use Rattle.run_fits.specs.Packets.{AreWhole, WantFits, WantsFit}
 use Rattle.tcp_laws.proofs.Tests.{by_test}
 use Rattle.host_wants.specs.declared.outlet.Want.TheVariants as want
@@ -100,7 +101,7 @@ module _ (net : Net) where
   leave_all_fit [] w whole h = h
   leave_all_fit (p ∷ packets) w whole h = leave_all_fit packets (leaves net p w) whole.1 (leaves_fit p w whole.0 h)
 
-  goes_on_fits : (pushed : Pushed) (w : Wire) → PushWhole pushed → WireFits w → WireFits (goes_on net pushed w)
+  goes_on_fits : (pushed : Pushed) (w : Wire) → PushIs IsWhole pushed → WireFits w → WireFits (goes_on net pushed w)
   goes_on_fits (Leaves p) w whole h = leaves_fit p w whole h
   goes_on_fits (Waits due) w whole h = (makes_if_fit w.0 due what.Up tt h.0, h.1)
   goes_on_fits (Dropped p) w whole h = (logs_fit w.0 FullUp p whole h.0, h.1)
