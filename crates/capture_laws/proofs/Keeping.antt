@@ -25,9 +25,10 @@ use Rattle.host_link.specs.Wants.{does_want, does_all}
 use Rattle.host_link.specs.Lanes.{with_up}
 use Rattle.host_link.specs.Link.{LinkState, numbers, makes, later, not_before_next, event_of, logs}
 use Rattle.host_link.specs.Sending.{Wire, route_to, is_bootstrapping, loses, takes_its_chance, takes_route, takes_route_if, leaves, leave_all, makes_if, goes_on, goes_up, stays_here, loops, sends, drop_all, up_comes}
-use Rattle.host_state.proofs.Growth.{by_if, AllSmall}
+use Rattle.host_state.proofs.Growth.{by_if}
+use Rattle.host_laws.proofs.Walks.{PushIs}
 use Rattle.run_fits.proofs.Bytes.{all_append}
-use Rattle.capture_laws.proofs.Lanes.{IsSmallPush, pushed_fits, left_fits}
+use Rattle.capture_laws.proofs.Lanes.{IsSmall, pushed_fits, left_fits}
 
 -- what comes past the network is not too large
 abbrev pub FitsLoop : What → Type 0
@@ -103,17 +104,17 @@ module _ (now : Time) where
     leaves_keep packet w small k =
         route_if_keep (is_bootstrapping net w.0.time) (route_to net w.0.number packet.to.ip) packet (logs Send packet w.0, w.1) small (logs_keep w.0 Send packet small k)
 
-    leave_all_keep : (packets : List Packet) (w : Wire) → AllSmall packets → W w → W (leave_all net packets w)
+    leave_all_keep : (packets : List Packet) (w : Wire) → AllByRecursion IsSmall packets → W w → W (leave_all net packets w)
     unfolding leave_all
     leave_all_keep [] w small k = k
     leave_all_keep (p ∷ ps) w small k = leave_all_keep ps (leaves net p w) small.1 (leaves_keep p w small.0 k)
 
-    goes_on_keep : (pushed : Pushed) (w : Wire) → IsSmallPush pushed → W w → W (goes_on net pushed w)
+    goes_on_keep : (pushed : Pushed) (w : Wire) → PushIs IsSmall pushed → W w → W (goes_on net pushed w)
     goes_on_keep (Leaves p) w small k = leaves_keep p w small k
     goes_on_keep (Waits due) w small k = makes_if_keep w.0 due what.Up tt k
     goes_on_keep (Dropped p) w small k = logs_keep w.0 FullUp p small k
 
-    pub drop_all_keep : (packets : List Packet) (l : LinkState) → AllSmall packets → K l → K (drop_all packets l)
+    pub drop_all_keep : (packets : List Packet) (l : LinkState) → AllByRecursion IsSmall packets → K l → K (drop_all packets l)
     unfolding drop_all
     drop_all_keep [] l small k = k
     drop_all_keep (p ∷ ps) l small k = drop_all_keep ps (logs Codel p l) small.1 (logs_keep l Codel p small.0 k)

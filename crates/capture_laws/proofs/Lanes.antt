@@ -1,28 +1,26 @@
 -- What lanes give of packets that are not too large.
 use Rattle.std.proofs.Common.{◌≤◌, true, false, nat_le, nat_lt, Bool, List, [], ◌∷◌, ◌++◌, length}
+use Rattle.std.specs.List.{AllByRecursion}
 use Rattle.sim_base.specs.Packet.{packet_size}
 use Rattle.sim_base.specs.declared.packet.Packet.{Packet}
 use Rattle.sim_base.specs.declared.size.TheConstants.{MAX_PACKET}
 use Rattle.sim_base.specs.declared.time.Time.{Time}
 use Rattle.net_iface.specs.declared.lane.TheConstants.{WAITING}
 use Rattle.net_iface.specs.declared.lane.Pushed.{Pushed}
-use Rattle.net_iface.specs.declared.lane.Pushed.TheVariants.{Leaves, Waits, Dropped}
 use Rattle.net_iface.specs.declared.lane.Waiting.{Waiting}
 use Rattle.net_iface.specs.Lane.{LaneState, Left, AllFit, waiting_size, lane_at, pushed_first, pushed_behind, pushed_on, pushed, taken_front, with_rest, with_taken, leaving}
-use Rattle.host_state.proofs.Growth.{by_if, AllSmall}
+use Rattle.host_state.proofs.Growth.{by_if}
+use Rattle.host_laws.proofs.Walks.{PushIs}
 
 behind_fits : (ws : List Waiting) (w : Waiting) → AllFit ws → waiting_size w ≤ MAX_PACKET → AllFit (ws ++ w ∷ [])
 behind_fits [] w h small = (small, tt)
 behind_fits (x ∷ ws) w h small = (h.0, behind_fits ws w h.1 small)
 
--- what a push gives, also what it drops
-abbrev pub IsSmallPush : Pushed → Type 0
-IsSmallPush (Leaves p) = packet_size p ≤ MAX_PACKET
-IsSmallPush (Waits due) = Unit {0}
-IsSmallPush (Dropped p) = packet_size p ≤ MAX_PACKET
+abbrev pub IsSmall : Packet → Type 0
+IsSmall packet = packet_size packet ≤ MAX_PACKET
 
 abbrev pub FitsPush : Pushed × LaneState → Type 0
-FitsPush t = IsSmallPush t.0 × AllFit t.1.waiting
+FitsPush t = PushIs IsSmall t.0 × AllFit t.1.waiting
 
 push_first : (now : Time) (packet : Packet) (lane : LaneState) → packet_size packet ≤ MAX_PACKET → AllFit lane.waiting → FitsPush (pushed_first now packet lane)
 push_first now packet lane small fit =
@@ -41,8 +39,8 @@ pushed_fits now packet lane small fit = push_on now packet (lane_at now lane) la
 
 -- what leaves, what is dropped, and what stays
 pub record FitsLeft (left : Left) : Type 0 where
-  pub packets : AllSmall left.packets
-  pub dropped : AllSmall left.dropped
+  pub packets : AllByRecursion IsSmall left.packets
+  pub dropped : AllByRecursion IsSmall left.dropped
   pub waiting : AllFit left.lane.waiting
 
 taken_fits : (dropped : Bool) (packet : Packet) (left : Left) → packet_size packet ≤ MAX_PACKET → FitsLeft left → FitsLeft (with_taken dropped packet left)
