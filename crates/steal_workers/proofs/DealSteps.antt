@@ -1,11 +1,11 @@
 -- A deal, from its parts.
-use Rattle.std.proofs.Common.{◌≡◌, ℕ, zero, suc, ◌+◌, ◌/◌, ◌<◌, false, true≢false, List, [], ◌∷◌, ◌++◌, map, take, length, get_or, sym, refl, ap, ◌∙◌, subst, arith}
+use Rattle.std.proofs.Common.{◌≡◌, ℕ, zero, suc, ◌+◌, ◌/◌, ◌<◌, ◌≤◌, false, true≢false, List, [], ◌∷◌, ◌++◌, map, take, length, get_or, sym, refl, ap, ◌∙◌, subst, arith}
 use mathlib.Core.Option.{some, some-injective, some-ne-none}
 use lib.ListN.{get_elem?}
-use Rattle.std.proofs.lemmas.List.{length-map, take_all}
+use Rattle.std.proofs.lemmas.List.{get_or_at, length-map, take_all}
 use Rattle.std.proofs.lemmas.List.Sorted.{IsPermutation-refl}
 use Rattle.std.specs.List.Sorted.{IsPermutation}
-use Rattle.crossbeam_deque.specs.Handles.{worker_index}
+use Rattle.crossbeam_deque.specs.Handles.{worker_capacity, worker_index}
 use Rattle.steal_workers.specs.declared.item.Item.{Item}
 use Rattle.steal_workers.specs.declared.item.Item.TheVariants.{Task, Mark}
 use Rattle.steal_workers.specs.declared.deck.Deck.{Deck}
@@ -17,12 +17,12 @@ use Rattle.steal_workers.specs.inside.Handles.{deque_of}
 use Rattle.steal_workers.specs.Deals.{Deal, IsDealt}
 use Rattle.steal_workers.specs.SeatViews.{SeatView, seat_count}
 use Rattle.steal_workers.specs.WholeDeals.{common_deal, IsNewSeat, IsNewDeal}
-use Rattle.steal_workers.specs.inside.Decks.{AreFilling, mark_list, queue_of}
+use Rattle.steal_workers.specs.inside.Decks.{IsDeck, AreFilling, mark_list, queue_of}
 use Rattle.steal_workers.specs.inside.Columns.{IsRow, closed, deck_deque}
 use Rattle.steal_workers.specs.inside.Unused.{unused_view}
 use Rattle.steal_workers.specs.inside.Layouts.{AreFresh, AreFilled, AreSeated, planned}
 use Rattle.list_weights.proofs.Weights.{weigh_append}
-use Rattle.steal_workers.proofs.DeckSteps.{last_turn}
+use Rattle.steal_workers.proofs.DeckSteps.{done_less, last_turn}
 use Rattle.steal_workers.proofs.ColumnSteps.{marks_closed}
 
 marks_more : {T : Type 0} (xs : List (Item T)) → IsAllMarks xs → IsAllMarks (xs ++ Mark ∷ [])
@@ -70,6 +70,14 @@ module _ {T : Type 0} where
       let here = f.each d e w in
       let last = last_turn (worker_index (get_or decks d e).deque) n all d some_seats here.level in
       (here.sound, here.unmarked, let c = here.capacity in omega arith)
+
+  -- the next of the decks, of which some are done
+  pub next_filled : (n : ℕ) (decks done rest after : List (Deck T)) (deck : Deck T) → AreFilled n decks → decks ≡ done ++ rest → rest ≡ deck ∷ after
+      → IsDeck n deck × (marks (queue_of deck) ≡ 0) × (worker_index deck.deque + n ≤ worker_capacity deck.deque)
+  next_filled n decks done rest after deck filled is next =
+      let all : decks ≡ done ++ (deck ∷ after) = is ∙ ap (λ l. done ++ l) next in
+      let here : get_or decks (length done) deck ≡ deck = ap (λ l. get_or l (length done) deck) all ∙ get_or_at done deck after deck (length done) refl in
+      subst (λ (d : Deck T). IsDeck n d × (marks (queue_of d) ≡ 0) × (worker_index d.deque + n ≤ worker_capacity d.deque)) here (filled (length done) deck (done_less decks done rest after deck is next))
 
   not_mark : (number : ℕ) (task : T) → Task number task ≡ Mark → ⊥
   not_mark number task e = cc

@@ -63,6 +63,11 @@ slice_get_seam : {X : Type 0} (xs : List X) (y : X) (ys : List X) → slice_get 
 slice_get_seam [] y ys = refl
 slice_get_seam (z ∷ xs) y ys = slice_get_seam xs y ys
 
+-- some that are done are fewer than all, where one is left
+pub done_less : {X : Type 0} (items done rest after : List X) (x : X) → items ≡ done ++ rest → rest ≡ x ∷ after → length done < length items
+done_less items done rest after x is next =
+    let all : length items ≡ length (done ++ (x ∷ after)) = ap length is ∙ ap (λ l. length (done ++ l)) next in omega (arith, length-append done (x ∷ after))
+
 -- the next of a list's members, of which some are done
 pub taken_next : {X : Type 0} (items done rest after : List X) (x : X) (k : ℕ) → length done ≡ k → items ≡ done ++ rest → rest ≡ x ∷ after
     → (slice_get items k ≡ Some x) × ((more : List X) × (length more ≡ k + 1) × (items ≡ more ++ after))

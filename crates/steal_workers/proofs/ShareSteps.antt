@@ -1,5 +1,5 @@
 -- A seat's step on one deque keeps its share.
-use Rattle.std.proofs.Common.{◌≡◌, ℕ, ◌+◌, ◌≤◌, false, true≢false, ◌||◌, [], ◌∷◌, ◌++◌, sym, refl, ap, ◌∙◌, subst, arith}
+use Rattle.std.proofs.Common.{◌≡◌, ℕ, ◌+◌, ◌≤◌, false, true≢false, [], ◌∷◌, ◌++◌, sym, refl, ap, ◌∙◌, subst, arith}
 use Rattle.steal_workers.specs.declared.item.Item.{Item}
 use Rattle.steal_workers.specs.declared.item.Item.TheVariants.{Task as task_item, Mark as mark_item}
 use Rattle.steal_workers.specs.declared.hand.Hand.{Hand}
@@ -45,10 +45,9 @@ module _ {T : Type 0} where
   steps old new (task_item number task) marked stands weights = (marked, stands, λ h. let w = weights h in omega arith)
   steps old new mark_item marked stands weights = (marked, λ h. let w = weights h in omega arith)
 
-  pub noted : (old new : Share T) (item : Item T) → IsShare old → old.marked ≡ false → new.marked ≡ (old.marked || is_mark item)
+  pub took_item : (old new : Share T) (item : Item T) → IsShare old → old.marked ≡ false → new.marked ≡ is_mark item
       → IsSameHandle old.handle new.handle → Took (hand_of old.handle) (item ∷ []) (hand_of new.handle) → Follows old new × Finds old (finding_of item) new
-  noted old new item sound unmarked marked same took =
-      let now : new.marked ≡ is_mark item = marked ∙ ap (λ b. b || is_mark item) unmarked in
+  took_item old new item sound unmarked now same took =
       let all : marks (taken_from new) ≡ marks (taken_from old ++ item ∷ []) = ap (λ (v : Hand T). marks v.taken) took.0 in
       let before : only old.marked 1 ≡ 0 = ap (λ b. only b 1) unmarked in
       let after : only new.marked 1 ≡ only (is_mark item) 1 = ap (λ b. only b 1) now in (

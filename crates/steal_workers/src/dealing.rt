@@ -4,7 +4,7 @@ ghost use Rattle.list_weights.specs.Places.{EachAt};
 ghost use Rattle.steal_workers.specs.inside.Columns.{AreColumns, closed};
 ghost use Rattle.steal_workers.specs.Deals.{IsDealt};
 ghost use Rattle.steal_workers.specs.inside.Decks.{AreFilling};
-ghost use Rattle.steal_workers.specs.inside.Layouts.{AreFresh, IsEmptyRow, AreEmptyRows, AreFilled, AreSeated, planned};
+ghost use Rattle.steal_workers.specs.inside.Layouts.{AreFresh, AreEmptyRows, AreFilled, AreSeated, planned};
 ghost use Rattle.steal_workers.specs.Seats.{most_seats};
 ghost use Rattle.steal_workers.specs.WholeDeals.{IsNewDeal};
 
@@ -27,18 +27,6 @@ pub struct DealFailed<T> {
 pub(crate) struct SeatRow<T> {
     pub shares: Vec<Share<T>>,
     pub tasks: Snapshot<Vec<T>>,
-}
-
-impl<T> SeatRow<T> {
-    fn new(alloc: Global, seats: usize, tasks: &Vec<T>) -> Result<SeatRow<T>, AllocError>
-        ensures { IfOk result (IsEmptyRow seats tasks.now.items) }
-    {
-        let shares = Vec::with_capacity(alloc, seats)?;
-        Ok(SeatRow {
-            shares,
-            tasks: Snapshot::of(tasks),
-        })
-    }
 }
 
 // What is dealt, for contracts alone.
@@ -77,7 +65,11 @@ fn new_rows<T: Drop>(
 {
     let mut rows = Vec::with_capacity(alloc, seats)?;
     for _ in 0..seats {
-        rows.push_reserved(SeatRow::new(alloc, seats, tasks)?);
+        let shares = Vec::with_capacity(alloc, seats)?;
+        rows.push_reserved(SeatRow {
+            shares,
+            tasks: Snapshot::of(tasks),
+        });
     }
     Ok(rows)
 }

@@ -2,7 +2,7 @@
 ghost use Rattle.std.specs.Prelude.{◌≡◌, ℕ, true, ◌+◌, ◌*◌, ◌/◌, ◌<◌, ◌≤◌, ◌^◌, ◌∷◌, [], IfOk, length, vec_len};
 ghost use Rattle.crossbeam_deque.specs.Handles.{worker_deque, worker_flavor, worker_view, worker_capacity, worker_index};
 ghost use Rattle.list_weights.specs.Places.{EachAt};
-ghost use Rattle.steal_workers.specs.inside.Decks.{IsDeck, IsFilling, AreFilling, HasMore, queue_of};
+ghost use Rattle.steal_workers.specs.inside.Decks.{IsFilling, AreFilling, queue_of};
 ghost use Rattle.steal_workers.specs.inside.Items.{marks};
 ghost use Rattle.steal_workers.specs.OneDeque.{after_push};
 
@@ -53,15 +53,6 @@ impl<T: Drop> Deck<T> {
             shares,
         })
     }
-
-    fn put(&mut self, item: Item<T>)
-        requires room { worker_index self.old.deque < worker_capacity self.old.deque }
-        requires deals { (worker_view self.old.deque).deals ≡ true }
-        requires share { (worker_view self.old.deque).share ≡ marks (worker_view self.old.deque).dealt }
-        ensures { HasMore self.old self.new item }
-    {
-        put(&mut self.deque, item);
-    }
 }
 
 /// Deals the tasks in turn, each with its number.
@@ -74,7 +65,10 @@ pub fn put_tasks<T: Drop>(decks: &mut [Deck<T>], tasks: Vec<T>)
     let count = decks.len();
     let mut number = 0usize;
     for task in tasks {
-        decks[number % count].put(Item::Task(number as u32, task));
+        put(
+            &mut decks[number % count].deque,
+            Item::Task(number as u32, task),
+        );
         number += 1;
     }
 }

@@ -94,15 +94,6 @@ fn pop<T>(stack: &mut Stack<T>) -> Share<T>
     }
 }
 
-fn is_owners<T>(share: &Share<T>) -> bool
-    ensures { result ≡ is_own share.now.handle }
-{
-    match &share.handle {
-        Handle::Own(_) => true,
-        Handle::Other(_, _) => false,
-    }
-}
-
 // Where in a column the owner's share stands.
 fn owner_in<T>(column: &[Share<T>]) -> usize
     requires { weigh own_weight column.now ≡ 1 }
@@ -110,8 +101,9 @@ fn owner_in<T>(column: &[Share<T>]) -> usize
     ensures owner { (e : Share T) → is_own (slice_index_or column.now result e).handle ≡ true }
 {
     for (place, share) in column.iter().enumerate() {
-        if is_owners(share) {
-            return place;
+        match &share.handle {
+            Handle::Own(_) => return place,
+            Handle::Other(_, _) => {}
         }
     }
     unreachable!()
@@ -220,9 +212,9 @@ fn reserved<T: Drop>(alloc: Global, seats: usize, tasks: usize) -> Result<Room<T
     ensures stacks { IfOk result (λ room. (room.stacks.items ≡ []) × (seats ≤ vec_capacity room.stacks)) }
 {
     Ok(Room {
-        left: Vec::with_capacity(alloc, tasks + 1)?,
         column: Vec::with_capacity(alloc, seats)?,
         stacks: Vec::with_capacity(alloc, seats)?,
+        left: Vec::with_capacity(alloc, tasks + 1)?,
     })
 }
 

@@ -1,6 +1,5 @@
 //! A seat's share in one deque of a deal.
-ghost use Rattle.std.specs.Prelude.{◌≡◌, ◌||◌};
-ghost use Rattle.steal_workers.specs.inside.Shares.{IsShare, Follows, Finds, finding_of, is_mark};
+ghost use Rattle.steal_workers.specs.inside.Shares.{IsShare, Follows, Finds};
 
 use crate::handle::Handle;
 use crate::item::Item;
@@ -21,20 +20,6 @@ pub enum Finding<T> {
     Lost,
 }
 
-// What the item tells, and whether the mark was taken.
-fn noted<T>(item: Item<T>, marked: &mut bool) -> Finding<T>
-    ensures finding { result ≡ finding_of item }
-    ensures marked { marked.new ≡ (marked.old || is_mark item) }
-{
-    match item {
-        Item::Task(number, task) => Finding::Task(number, task),
-        Item::Mark => {
-            *marked = true;
-            Finding::Marked
-        }
-    }
-}
-
 impl<T> Share<T> {
     /// Takes from the deque, unless its mark was taken.
     pub fn take(&mut self) -> Finding<T>
@@ -47,7 +32,13 @@ impl<T> Share<T> {
         }
         match self.handle.take() {
             None => Finding::Lost,
-            Some(item) => noted(item, &mut self.marked),
+            Some(item) => match item {
+                Item::Task(number, task) => Finding::Task(number, task),
+                Item::Mark => {
+                    self.marked = true;
+                    Finding::Marked
+                }
+            },
         }
     }
 }

@@ -1,4 +1,4 @@
-use Rattle.std.proofs.Common.{◌≡◌, ℕ, List, ◌∷◌, ◌++◌, length, get_or, Vec, vec_len, ap, sym, ◌∙◌, subst, length-append, arith}
+use Rattle.std.proofs.Common.{◌≡◌, ℕ, ◌+◌, ◌≤◌, List, [], ◌∷◌, ◌++◌, length, get_or, Vec, vec_len, ap, sym, ◌∙◌, subst, length-append, arith}
 use Rattle.std.proofs.lemmas.List.{get_or_at}
 use Rattle.std.specs.Vec.Iter.{into_iter_items}
 use Rattle.std.specs.declared.alloc.Global.{Global}
@@ -6,9 +6,54 @@ use Rattle.list_weights.specs.Places.{EachAt}
 use Rattle.steal_workers.specs.declared.deck.Deck.{Deck}
 use Rattle.steal_workers.specs.declared.share.Share.{Share}
 use Rattle.steal_workers.specs.inside.Columns.{IsColumn, closed, deck_deque}
+use Rattle.steal_workers.specs.inside.Decks.{IsDeck}
 use Rattle.list_weights.proofs.Places.{EachAt_push}
-use Rattle.steal_workers.proofs.DeckSteps.{taken_next}
+use Rattle.steal_workers.proofs.DealSteps.{next_filled}
+use Rattle.steal_workers.proofs.DeckSteps.{done_less, taken_next}
 use Rattle.steal_workers.proofs.dealing.columns_of.Goals as goal
+
+pub loop-deck-init : goal.loop-deck-init
+loop-deck-init g c = record {
+  so_far = ([], (let e = ap length c.requires.empty.0 in omega (arith, c.args.columns.ok.0)), sym c.into_iter-deck-iterator.ensures.into_iter_gives.0);
+  count = c.len-count.ensures;
+  room = c.requires.empty.1;
+  each = rw c.requires.empty.0 (λ d e w. absurd (omega arith));
+}
+
+pub column-requires-clause-deck : goal.column-requires-clause-deck
+column-requires-clause-deck g c =
+    let inv = c.loop-deck.invariant in
+    subst (λ (n : ℕ). IsDeck n c.in-Some.deck) (sym inv.count)
+    (next_filled (vec_len c.args.decks) c.args.decks.items inv.so_far.0 (into_iter_items c.loop-deck.deck-iterator) (into_iter_items c.next.new.self) c.in-Some.deck c.requires.filled inv.so_far.2 c.in-Some.ensures.steps.0).0
+
+pub column-requires-clause-unmarked : goal.column-requires-clause-unmarked
+column-requires-clause-unmarked g c =
+    let so_far = c.loop-deck.invariant.so_far in
+    (next_filled (vec_len c.args.decks) c.args.decks.items so_far.0 (into_iter_items c.loop-deck.deck-iterator) (into_iter_items c.next.new.self) c.in-Some.deck c.requires.filled so_far.2 c.in-Some.ensures.steps.0).1
+
+pub column-requires-clause-room : goal.column-requires-clause-room
+column-requires-clause-room g c =
+    let inv = c.loop-deck.invariant in
+    let room = (next_filled (vec_len c.args.decks) c.args.decks.items inv.so_far.0 (into_iter_items c.loop-deck.deck-iterator) (into_iter_items c.next.new.self) c.in-Some.deck c.requires.filled inv.so_far.2 c.in-Some.ensures.steps.0).2 in
+    let count = inv.count in
+    omega arith
+
+pub column-requires-clause-place : goal.column-requires-clause-place
+column-requires-clause-place g c =
+    let inv = c.loop-deck.invariant in
+    let less = done_less c.args.decks.items inv.so_far.0 (into_iter_items c.loop-deck.deck-iterator) (into_iter_items c.next.new.self) c.in-Some.deck inv.so_far.2 c.in-Some.ensures.steps.0 in
+    let done = inv.so_far.1 in
+    let count = inv.count in
+    let place = c.len-place.ensures in
+    omega (arith, c.args.decks.ok.0)
+
+pub push_reserved-requires : goal.push_reserved-requires
+push_reserved-requires g c =
+    let inv = c.loop-deck.invariant in
+    let less = done_less c.args.decks.items inv.so_far.0 (into_iter_items c.loop-deck.deck-iterator) (into_iter_items c.next.new.self) c.in-Some.deck inv.so_far.2 c.in-Some.ensures.steps.0 in
+    let done = inv.so_far.1 in
+    let room = inv.room in
+    omega (arith, c.args.decks.ok.0)
 
 pub loop-deck-preserved : goal.loop-deck-preserved
 loop-deck-preserved g c =
@@ -48,3 +93,6 @@ returns-clause-columns g c =
       same_count = sym c.args.decks.ok.0;
       each = λ d column w e. (inv.each d column w).0 e;
     }
+
+pub returns-clause-height : goal.returns-clause-height
+returns-clause-height g c = λ d column w. (c.loop-deck.invariant.each d column w).1

@@ -1,14 +1,16 @@
-use Rattle.std.proofs.Common.{◌≡◌, ℕ, ◌∷◌, All, length, ap, sym, ◌∙◌, subst, arith}
+use Rattle.std.proofs.Common.{◌≡◌, ℕ, List, ◌∷◌, All, length, ap, sym, ◌∙◌, subst, arith}
 use Rattle.std.proofs.lemmas.List.Elements.{All-head, All-tail}
 use Rattle.std.specs.Vec.Iter.{into_iter_items}
 use Rattle.list_weights.specs.Places.{EachAt}
+use Rattle.steal_workers.specs.declared.item.Item.{Item}
 use Rattle.steal_workers.specs.declared.dealing.SeatRow.{SeatRow}
+use Rattle.steal_workers.specs.Deals.{IsDealt}
 use Rattle.steal_workers.specs.SeatViews.{SeatView}
 use Rattle.steal_workers.specs.WholeDeals.{IsNewSeat}
 use Rattle.steal_workers.specs.inside.Columns.{AreColumns, IsRow}
 use Rattle.steal_workers.specs.inside.Layouts.{IsEmptyRow, planned}
 use Rattle.list_weights.proofs.Places.{EachAt_push}
-use Rattle.steal_workers.proofs.DealSteps.{seat_of_row}
+use Rattle.steal_workers.proofs.DealSteps.{row_queues, seat_of_row}
 use Rattle.steal_workers.proofs.dealing.seated.Goals as goal
 
 pub row-shares-requires-clause-columns : goal.row-shares-requires-clause-columns
@@ -31,6 +33,46 @@ row-shares-requires-clause-place g c =
     let left = inv.left in
     let long = ap length c.in-Some.ensures.steps.0 in
     let place = c.len-place.ensures in
+    omega arith
+
+pub new-requires-clause-place : goal.new-requires-clause-place
+new-requires-clause-place g c =
+    let inv = c.loop-empty.invariant in
+    let row = c.row-shares.ensures.row.count in
+    let count = inv.columns.count in
+    let left = inv.left in
+    let long = ap length c.in-Some.ensures.steps.0 in
+    let place = c.len-place.ensures in
+    let most = c.requires.seats.2 in
+    (omega arith, omega arith)
+
+pub new-requires-clause-shares : goal.new-requires-clause-shares
+new-requires-clause-shares g c = c.row-shares.ensures.row.each
+
+pub new-requires-clause-dealt : goal.new-requires-clause-dealt
+new-requires-clause-dealt g c =
+    let T = g.row.T.Denot in
+    let inv = c.loop-empty.invariant in
+    let decks = c.args.plan.now.decks.value.items in
+    let n = length c.args.columns.now in
+    let P : SeatRow T → Type 0 = IsEmptyRow n c.args.plan.now.tasks.value.items in
+    let same = (All-head P c.in-Some.empty (into_iter_items c.next.new.self) (subst (All P) c.in-Some.ensures.steps.0 inv.rows)).2 in
+    let row : IsRow decks n n c.len-place.result c.row-shares.result.items = subst (λ (m : ℕ). IsRow decks m m c.len-place.result c.row-shares.result.items) inv.columns.count c.row-shares.ensures.row in
+    let queues = row_queues decks n c.len-place.result c.row-shares.result.items inv.columns.same_count row in
+    subst (λ (p : List (List (Item T)) × List T). IsDealt p.0 p.1) (λ i. (sym queues i, sym same i)) c.requires.dealt
+
+pub new-requires-clause-count : goal.new-requires-clause-count
+new-requires-clause-count g c =
+    let P : SeatRow g.row.T.Denot → Type 0 = IsEmptyRow (length c.args.columns.now) c.args.plan.now.tasks.value.items in
+    let same = (All-head P c.in-Some.empty (into_iter_items c.next.new.self) (subst (All P) c.in-Some.ensures.steps.0 c.loop-empty.invariant.rows)).2 in
+    c.requires.count ∙ ap length (sym same)
+
+pub push_reserved-requires : goal.push_reserved-requires
+push_reserved-requires g c =
+    let inv = c.loop-empty.invariant in
+    let left = inv.left in
+    let long = ap length c.in-Some.ensures.steps.0 in
+    let room = inv.room in
     omega arith
 
 pub loop-empty-preserved : goal.loop-empty-preserved
