@@ -237,13 +237,6 @@ fn has_cell_name(bytes: &[u8]) -> bool
     !name_at(bytes).is_empty() && at_cell_gap(after_name(bytes))
 }
 
-/// The name at the front.
-fn cell_name(alloc: Global, bytes: &[u8]) -> Result<Scalar, NoMemory>
-    ensures { IfOk result (λ name. name ≡ name_at bytes.now) }
-{
-    Ok(Scalar::from_slice(alloc, name_at(bytes))?)
-}
-
 /// The step over a space, or over a comment behind one, which goes to the line's end.
 fn space_step(rest: &[u8]) -> CellStep
     ensures step { result ≡ record { piece = None; skip = if begins_with number_sign rest.now then length rest.now else 0 } }
@@ -273,11 +266,11 @@ fn step_at(alloc: Global, b: u8, rest: &[u8], bytes: &[u8]) -> Result<CellStep, 
         b'}' => Ok(one_byte(Piece::Closing(Bracket::Curly))),
         b',' => Ok(one_byte(Piece::Comma)),
         b'&' if has_cell_name(rest) => Ok(CellStep {
-            piece: Some(Piece::CellAnchor(cell_name(alloc, rest)?)),
+            piece: Some(Piece::CellAnchor(Scalar::from_slice(alloc, name_at(rest))?)),
             skip: name_len(rest),
         }),
         b'*' if has_cell_name(rest) => Ok(CellStep {
-            piece: Some(Piece::CellAlias(cell_name(alloc, rest)?)),
+            piece: Some(Piece::CellAlias(Scalar::from_slice(alloc, name_at(rest))?)),
             skip: name_len(rest),
         }),
         _ => Ok(scan_step(cell_scan(alloc, b, rest, bytes)?, b, rest, bytes)),
@@ -291,8 +284,9 @@ fn open_after(piece: &Option<Piece>, depth: usize) -> usize
     ensures small { result ≤ depth + 1 }
 {
     match piece {
-        Some(piece) => piece.open_after(depth),
-        None => depth,
+        Some(Piece::Opening(_)) => depth + 1,
+        Some(Piece::Closing(_)) => depth.saturating_sub(1),
+        _ => depth,
     }
 }
 
@@ -301,8 +295,8 @@ fn is_last(piece: &Option<Piece>, depth: usize) -> bool
     ensures { result ≡ is_last piece.now depth }
 {
     match piece {
-        Some(piece) => piece.is_last(depth),
-        None => false,
+        Some(Piece::Closing(_)) => depth <= 1,
+        _ => false,
     }
 }
 

@@ -2,7 +2,7 @@
 
 ghost use Rattle.std.specs.Prelude.{◌≡◌, ◌∷◌, List};
 ghost use Rattle.yaml_tokens.specs.Literals.{is_blank};
-ghost use Rattle.yaml_tokens.specs.Tokens.{head_of, is_deeper, stands_in, is_body, bar_column, column_behind, place_inside, place_behind, place_after};
+ghost use Rattle.yaml_tokens.specs.Tokens.{head_of, stands_in, is_body, bar_column, column_behind, place_inside, place_behind, place_after};
 ghost use Rattle.yaml_tokens.specs.declared.token.Token.{Token};
 
 use crate::scan::{is_blank, spaces};
@@ -27,22 +27,15 @@ pub enum LinePlace {
 }
 
 /// A block stands deeper than the key or dash whose value it is; at the root it may stand at any
-/// column.
-fn is_deeper(head: Option<usize>, column: usize) -> bool
-    ensures { result ≡ is_deeper head column }
-{
-    match head {
-        None => true,
-        Some(head) => head < column,
-    }
-}
-
-/// No line of a block stands left of it.
+/// column. No line of a block stands left of it.
 fn stands_in(head: Option<usize>, block: Option<usize>, column: usize) -> bool
     ensures { result ≡ stands_in head block column }
 {
     match block {
-        None => is_deeper(head, column),
+        None => match head {
+            None => true,
+            Some(head) => head < column,
+        },
         Some(block) => block <= column,
     }
 }

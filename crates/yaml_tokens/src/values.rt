@@ -5,7 +5,7 @@ ghost use Rattle.yaml_tokens.specs.Scalars.{is_null, plain_value, why_not, at_ga
 ghost use Rattle.yaml_tokens.specs.Literals.{chomp_at, chomp_len, is_digit_first};
 ghost use Rattle.yaml_tokens.specs.Anchors.{has_name, name_len, name_at, after_name};
 ghost use Rattle.yaml_tokens.specs.Pieces.{is_bracket};
-ghost use Rattle.yaml_tokens.specs.Tokens.{refused, why_behind, behind_value, behind_bar, alias_tokens, bar_tokens, flow_tokens, is_node_indicator, indicated, scalar_tokens, unkeyed, lone_tokens, value_tokens_of, bare_value, behind_spaces, named_value, value_tokens};
+ghost use Rattle.yaml_tokens.specs.Tokens.{refused, why_behind, behind_value, behind_bar, alias_tokens, bar_tokens, flow_tokens, is_node_indicator, indicated, scalar_tokens, unkeyed, lone_tokens, value_tokens_of, bare_value, behind_spaces, value_tokens};
 ghost use Rattle.yaml_tokens.specs.declared.token.Token.TheVariants as token;
 
 use crate::brackets::why_bracket;
@@ -327,23 +327,7 @@ impl LineReader {
         self.read_bare_value(tokens, column_behind, after_spaces(behind))
     }
 
-    /// Reads a value, or a name with a value or nothing behind it.
-    fn read_named_value(
-        self,
-        tokens: &mut Tokens,
-        column: usize,
-        bytes: &[u8],
-    ) -> Result<(), NoMemory>
-        requires { column + length bytes.now < 2 ^ 62 }
-        ensures { OnOk result (tokens.new ≡ tokens.old ++ named_value self.number column bytes.now) }
-    {
-        match bytes {
-            [b'&', rest @ ..] if has_name(rest) => self.read_name_with_value(tokens, column, rest),
-            _ => self.read_bare_value(tokens, column, bytes),
-        }
-    }
-
-    /// Reads what stands behind a key's colon.
+    /// Reads what stands behind a key's colon: a value, or a name with a value or nothing behind it.
     pub fn read_value(
         self,
         tokens: &mut Tokens,
@@ -353,6 +337,10 @@ impl LineReader {
         requires { column + length bytes.now < 2 ^ 62 }
         ensures { OnOk result (tokens.new ≡ tokens.old ++ value_tokens self.number column bytes.now) }
     {
-        self.read_named_value(tokens, column + spaces(bytes), after_spaces(bytes))
+        let column = column + spaces(bytes);
+        match after_spaces(bytes) {
+            [b'&', rest @ ..] if has_name(rest) => self.read_name_with_value(tokens, column, rest),
+            behind => self.read_bare_value(tokens, column, behind),
+        }
     }
 }
