@@ -6,9 +6,13 @@ use Rattle.steal_workers.specs.Deals.{Deal, IsDealt}
 use Rattle.steal_workers.specs.WholeDeals.{IsNewDeal}
 use Rattle.steal_workers.specs.inside.Decks.{AreFilling}
 use Rattle.steal_workers.specs.inside.Columns.{closed, deck_deque}
-use Rattle.steal_workers.specs.inside.Layouts.{AreFilled, planned}
+use Rattle.steal_workers.specs.inside.Layouts.{AreFresh, AreFilled, planned}
 use Rattle.steal_workers.proofs.DealSteps.{filled_from_filling, dealt_from_filling, new_deal}
 use Rattle.steal_workers.proofs.dealing.laid_out.Goals as goal
+
+pub filled-decks-requires-clause-fresh : goal.filled-decks-requires-clause-fresh
+filled-decks-requires-clause-fresh g c =
+    subst (λ (n : ℕ). AreFresh n (vec_len c.args.tasks / n + 1 + n) c.args.layout.decks.items) (sym (c.args.layout.decks.ok.0 ∙ c.requires.decks.0)) c.requires.decks
 
 pub columns_of-columns-requires-clause-filled : goal.columns_of-columns-requires-clause-filled
 columns_of-columns-requires-clause-filled g c =

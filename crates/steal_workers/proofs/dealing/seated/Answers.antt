@@ -35,6 +35,18 @@ row-shares-requires-clause-place g c =
     let place = c.len-place.ensures in
     omega arith
 
+pub row-shares-requires-clause-empty : goal.row-shares-requires-clause-empty
+row-shares-requires-clause-empty g c =
+    let P : SeatRow g.row.T.Denot → Type 0 = IsEmptyRow (length c.args.columns.now) c.args.plan.now.tasks.value.items in
+    (All-head P c.in-Some.empty (into_iter_items c.next.new.self) (subst (All P) c.in-Some.ensures.steps.0 c.loop-empty.invariant.rows)).0
+
+pub row-shares-requires-clause-room : goal.row-shares-requires-clause-room
+row-shares-requires-clause-room g c =
+    let P : SeatRow g.row.T.Denot → Type 0 = IsEmptyRow (length c.args.columns.now) c.args.plan.now.tasks.value.items in
+    let room = (All-head P c.in-Some.empty (into_iter_items c.next.new.self) (subst (All P) c.in-Some.ensures.steps.0 c.loop-empty.invariant.rows)).1 in
+    let count = c.loop-empty.invariant.columns.count in
+    omega arith
+
 pub new-requires-clause-place : goal.new-requires-clause-place
 new-requires-clause-place g c =
     let inv = c.loop-empty.invariant in
@@ -102,3 +114,12 @@ loop-empty-preserved g c =
       seats = subst (EachAt F) (sym c.push_reserved.ensures.items)
           (EachAt_push F c.loop-empty.seats.items c.new.result inv.seats (seat.0, seat.1 ∙ at, seat.2));
     }
+
+pub returns-clause-count : goal.returns-clause-count
+returns-clause-count g c =
+    let e = c.in-None.ensures.steps.0 in
+    let left = c.loop-empty.invariant.left in
+    omega (arith, c.loop-empty.seats.ok.0, c.loop-empty.empty-iterator.rest.ok.0)
+
+pub returns-clause-seats : goal.returns-clause-seats
+returns-clause-seats g c = c.loop-empty.invariant.seats

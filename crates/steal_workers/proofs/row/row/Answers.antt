@@ -1,4 +1,4 @@
-use Rattle.std.proofs.Common.{◌≡◌, ◌+◌, ◌<◌, ◌++◌, [], ◌∷◌, length, get_or, Vec, refl, sym, subst, arith}
+use Rattle.std.proofs.Common.{◌≡◌, ℕ, ◌+◌, ◌<◌, ◌++◌, [], ◌∷◌, length, get_or, Vec, refl, sym, subst, arith}
 use Rattle.std.specs.declared.alloc.Global.{Global}
 use Rattle.steal_workers.specs.declared.share.Share.{Share}
 use Rattle.steal_workers.specs.inside.Columns.{IsRow}
@@ -24,3 +24,18 @@ loop-deque-preserved g c =
           (row_more decks n d c.args.place c.loop-deque.shares.items c.loop-deque.columns old c.pop.new.self c.in-Some.share e inv.columns (omega arith) refl popped height inv.row);
       room = (let r = inv.room in let p = c.push_reserved.ensures.capacity in omega arith);
     }
+
+pub returns-clause-columns : goal.returns-clause-columns
+returns-clause-columns g c = c.loop-deque.invariant.columns
+
+pub returns-clause-height : goal.returns-clause-height
+returns-clause-height g c = λ d column w.
+    let count = c.loop-deque.invariant.columns.count in
+    let t = c.loop-deque-test.false in
+    (c.loop-deque.invariant.height d column w).0 (omega arith)
+
+pub returns-clause-row : goal.returns-clause-row
+returns-clause-row g c =
+    let n = length c.args.columns.now in
+    subst (λ (m : ℕ). IsRow c.args._plan.now.value.items n m c.args.place c.loop-deque.shares.items)
+    (let t = c.loop-deque-test.false in let e = c.loop-deque.auto.deque-end in omega arith) c.loop-deque.invariant.row
