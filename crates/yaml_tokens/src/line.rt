@@ -1,9 +1,9 @@
 //! The tokens of a line, read from the left.
 
 ghost use Rattle.std.specs.Prelude.{◌≡◌, ◌+◌, ◌<◌, ◌≤◌, ◌^◌, ◌∷◌, ◌++◌, IsTrue, [], Some, length, drop, IfOk, OnOk};
-ghost use Rattle.yaml_tokens.specs.Scalars.{at_colon, plain_value, IsWithin};
+ghost use Rattle.yaml_tokens.specs.Scalars.{at_colon, plain_value};
 ghost use Rattle.yaml_tokens.specs.Anchors.{name_len, name_at, after_name};
-ghost use Rattle.yaml_tokens.specs.Tokens.{behind_spaces, pair_tokens, row_tokens, row_tokens_of, last_tokens, last_node, named_node, is_name_indicator, is_dash, node_tokens, has_content, is_marker, is_late_marker, begins_document, line_tokens};
+ghost use Rattle.yaml_tokens.specs.Tokens.{behind_spaces, pair_tokens, row_tokens, last_tokens, last_node, named_node, is_name_indicator, is_dash, node_tokens, has_content, is_marker, is_late_marker, begins_document, line_tokens};
 ghost use Rattle.yaml_tokens.specs.declared.token.Token.TheVariants as token;
 
 use crate::names::{after_name, name_len};
@@ -133,24 +133,6 @@ impl LineReader {
         }
     }
 
-    fn read_row_of(
-        self,
-        tokens: &mut Tokens,
-        column: usize,
-        bytes: &[u8],
-        scan: Scan,
-    ) -> Result<(), NoMemory>
-        requires column { column + length bytes.now < 2 ^ 62 }
-        requires within { IsWithin scan (length bytes.now) }
-        ensures { OnOk result (tokens.new ≡ tokens.old ++ row_tokens_of self.number column bytes.now scan) }
-    {
-        match scan {
-            Scan::Plain(text, len) => self.read_plain(tokens, column, text, bytes, len),
-            Scan::Quoted(text, len) => self.read_quoted(tokens, column, text, bytes, len),
-            Scan::Refused(why) => self.refuse(tokens, column, why),
-        }
-    }
-
     /// Reads a row, or a value without a name.
     fn read_last(
         self,
@@ -170,23 +152,10 @@ impl LineReader {
         if is_node_indicator(b) {
             return self.read_indicated(tokens, column, b, rest, bytes);
         }
-        let scan = scalar_at(self.alloc, bytes)?;
-        self.read_row_of(tokens, column, bytes, scan)
-    }
-
-    /// Reads a row, or a value without a name, if any.
-    fn read_last_node(
-        self,
-        tokens: &mut Tokens,
-        column: usize,
-        bytes: &[u8],
-    ) -> Result<(), NoMemory>
-        requires { column + length bytes.now < 2 ^ 62 }
-        ensures { OnOk result (tokens.new ≡ tokens.old ++ last_node self.number column bytes.now) }
-    {
-        match bytes.split_first() {
-            Some((b, rest)) => self.read_last(tokens, column, *b, rest, bytes),
-            None => Ok(()),
+        match scalar_at(self.alloc, bytes)? {
+            Scan::Plain(text, len) => self.read_plain(tokens, column, text, bytes, len),
+            Scan::Quoted(text, len) => self.read_quoted(tokens, column, text, bytes, len),
+            Scan::Refused(why) => self.refuse(tokens, column, why),
         }
     }
 
@@ -203,7 +172,11 @@ impl LineReader {
         let behind = after_name(rest);
         let column_behind = column + (1 + name_len(rest)) + spaces(behind);
         self.add_name(tokens, column, rest)?;
-        self.read_last_node(tokens, column_behind, after_spaces(behind))
+        let bytes = after_spaces(behind);
+        match bytes.split_first() {
+            Some((b, rest)) => self.read_last(tokens, column_behind, *b, rest, bytes),
+            None => Ok(()),
+        }
     }
 
     /// Reads a row or a value, or a name with a row, a value or nothing behind it.

@@ -1,11 +1,11 @@
 //! The tokens of a value on its line, read from the left.
 
 ghost use Rattle.std.specs.Prelude.{◌≡◌, ◌+◌, ◌<◌, ◌^◌, ◌∷◌, ◌++◌, [], Some, length, IfOk, OnOk};
-ghost use Rattle.yaml_tokens.specs.Scalars.{is_null, plain_value, why_not, at_gap, scalar_at, IsWithin};
+ghost use Rattle.yaml_tokens.specs.Scalars.{is_null, plain_value, why_not, at_gap, scalar_at};
 ghost use Rattle.yaml_tokens.specs.Literals.{chomp_at, chomp_len, is_digit_first};
 ghost use Rattle.yaml_tokens.specs.Anchors.{has_name, name_len, name_at, after_name};
 ghost use Rattle.yaml_tokens.specs.Pieces.{is_bracket};
-ghost use Rattle.yaml_tokens.specs.Tokens.{refused, why_behind, behind_value, behind_bar, alias_tokens, bar_tokens, flow_tokens, is_node_indicator, indicated, scalar_tokens, unkeyed, lone_tokens, value_tokens_of, bare_value, behind_spaces, value_tokens};
+ghost use Rattle.yaml_tokens.specs.Tokens.{refused, why_behind, behind_value, alias_tokens, bar_tokens, flow_tokens, is_node_indicator, indicated, scalar_tokens, unkeyed, lone_tokens, bare_value, behind_spaces, value_tokens};
 ghost use Rattle.yaml_tokens.specs.declared.token.Token.TheVariants as token;
 
 use crate::brackets::why_bracket;
@@ -134,17 +134,6 @@ impl LineReader {
         self.refuse(tokens, 0, why)
     }
 
-    /// Reads what stands behind a bar.
-    fn read_behind_bar(self, tokens: &mut Tokens, rest: &[u8]) -> Result<(), NoMemory>
-        requires { length rest.now < 2 ^ 62 }
-        ensures { OnOk result (tokens.new ≡ tokens.old ++ behind_bar self.number rest.now) }
-    {
-        if is_digit_first(rest) {
-            return self.refuse(tokens, 0, Odd::Unsupported);
-        }
-        self.read_behind_value(tokens, rest)
-    }
-
     /// Reads what begins with `*`.
     fn read_alias(self, tokens: &mut Tokens, column: usize, bytes: &[u8]) -> Result<(), NoMemory>
         requires { length bytes.now < 2 ^ 62 }
@@ -173,7 +162,11 @@ impl LineReader {
             column,
             chomp,
         })?;
-        self.read_behind_bar(tokens, past(bytes, chomp_len(chomp)))
+        let rest = past(bytes, chomp_len(chomp));
+        if is_digit_first(rest) {
+            return self.refuse(tokens, 0, Odd::Unsupported);
+        }
+        self.read_behind_value(tokens, rest)
     }
 
     /// Reads a flow form.
@@ -254,28 +247,6 @@ impl LineReader {
         self.refuse(tokens, column, unkeyed(why))
     }
 
-    fn read_value_of(
-        self,
-        tokens: &mut Tokens,
-        column: usize,
-        bytes: &[u8],
-        scan: Scan,
-    ) -> Result<(), NoMemory>
-        requires small { length bytes.now < 2 ^ 62 }
-        requires within { IsWithin scan (length bytes.now) }
-        ensures { OnOk result (tokens.new ≡ tokens.old ++ value_tokens_of self.number column bytes.now scan) }
-    {
-        match scan {
-            Scan::Plain(text, len) => {
-                self.read_scalar(tokens, column, plain_value(text), from(bytes, len))
-            }
-            Scan::Quoted(text, len) => {
-                self.read_scalar(tokens, column, TextOrNull::text(text), from(bytes, len))
-            }
-            Scan::Refused(why) => self.refuse(tokens, column, why),
-        }
-    }
-
     /// Reads a value without a name, if any.
     fn read_bare_value(
         self,
@@ -295,8 +266,15 @@ impl LineReader {
         if is_node_indicator(*b) {
             return self.read_indicated(tokens, column, *b, rest, bytes);
         }
-        let scan = scalar_at(self.alloc, bytes)?;
-        self.read_value_of(tokens, column, bytes, scan)
+        match scalar_at(self.alloc, bytes)? {
+            Scan::Plain(text, len) => {
+                self.read_scalar(tokens, column, plain_value(text), from(bytes, len))
+            }
+            Scan::Quoted(text, len) => {
+                self.read_scalar(tokens, column, TextOrNull::text(text), from(bytes, len))
+            }
+            Scan::Refused(why) => self.refuse(tokens, column, why),
+        }
     }
 
     /// Adds the name behind `&`.
