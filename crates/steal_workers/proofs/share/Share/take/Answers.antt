@@ -1,9 +1,28 @@
-use Rattle.std.proofs.Common.{true, sym, ap, ◌∙◌, subst}
+use Rattle.std.proofs.Common.{true, sym, refl, ap, ◌∙◌, subst}
 use Rattle.steal_workers.specs.declared.item.Item.{Item}
 use Rattle.steal_workers.specs.declared.share.Share.{Share}
 use Rattle.steal_workers.specs.inside.Shares.{Finds, finding_of, is_mark}
-use Rattle.steal_workers.proofs.ShareSteps.{took_item}
+use Rattle.steal_workers.proofs.ShareSteps.{can_take, stays, lost, took_item}
 use Rattle.steal_workers.proofs.share.Share.take.Goals as goal
+
+pub returns-then-self-clause-same : goal.returns-then-self-clause-same
+returns-then-self-clause-same g c = stays c.args.self.now c.requires
+
+pub returns-then-self-clause-finding : goal.returns-then-self-clause-finding
+returns-then-self-clause-finding g c = (c.if-self.true, λ h. refl)
+
+pub take-requires : goal.take-requires
+take-requires g c = can_take c.args.self.now c.requires c.if-self.false
+
+pub returns-in-None-clause-same : goal.returns-in-None-clause-same
+returns-in-None-clause-same g c =
+    let new : Share g.row.T.Denot = record { handle = c.take.new.self; marked = c.args.self.now.marked } in
+    (lost c.args.self.now new c.requires refl c.in-None.ensures.same c.in-None.ensures.took.0 c.in-None.ensures.took.1).0
+
+pub returns-in-None-clause-finding : goal.returns-in-None-clause-finding
+returns-in-None-clause-finding g c =
+    let new : Share g.row.T.Denot = record { handle = c.take.new.self; marked = c.args.self.now.marked } in
+    (lost c.args.self.now new c.requires refl c.in-None.ensures.same c.in-None.ensures.took.0 c.in-None.ensures.took.1).1
 
 pub returns-in-Task-clause-same : goal.returns-in-Task-clause-same
 returns-in-Task-clause-same g c =
