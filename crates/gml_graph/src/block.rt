@@ -21,13 +21,12 @@ pub enum Part {
 pub fn is_named(part: Part, key: Key) -> bool
     ensures { result ≡ names part key }
 {
-    matches!(
-        (part, key),
-        (Part::Graph, Key::Graph)
-            | (Part::Directed, Key::Directed)
-            | (Part::Node, Key::Node)
-            | (Part::Edge, Key::Edge)
-    )
+    match part {
+        Part::Graph => matches!(key, Key::Graph),
+        Part::Directed => matches!(key, Key::Directed),
+        Part::Node => matches!(key, Key::Node),
+        Part::Edge => matches!(key, Key::Edge),
+    }
 }
 
 fn depth(part: Part) -> u8

@@ -7,7 +7,7 @@ ghost use Rattle.gml_graph.specs.Fault.{word_of};
 use std::alloc::{AllocError, AllocFailed};
 
 /// What is wrong with a text.
-#[derive(Clone, Copy, Debug)]
+#[derive(Clone, Copy)]
 pub enum GmlKind {
     /// Some byte breaks UTF-8.
     NotUtf8,
@@ -30,14 +30,14 @@ pub enum GmlKind {
 }
 
 /// The first fault of a text, with its line, from 1.
-#[derive(Clone, Copy, Debug)]
+#[derive(Clone, Copy)]
 pub struct GmlFault {
     pub line: u64,
     pub kind: GmlKind,
 }
 
 /// Why no graph was read.
-#[derive(Clone, Copy, Debug)]
+#[derive(Clone, Copy)]
 pub enum GmlError {
     /// The text has a fault.
     Fault(GmlFault),

@@ -2,6 +2,7 @@
 
 ghost use Rattle.std.specs.Prelude.{◌≡◌};
 ghost use Rattle.std.specs.List.{list_all};
+ghost use Rattle.std.specs.Str.{bytes_eq};
 ghost use Rattle.gml_graph.specs.Token.{is_key_byte, is_key, key_named, word_token, quoted};
 
 use crate::number::{Decimal, read_decimal};
@@ -73,47 +74,54 @@ fn is_key_word(word: &[u8]) -> bool
     }
 }
 
+/// Whether a word is this name.
+fn is_word(word: &[u8], name: &str) -> bool
+    ensures { result ≡ bytes_eq word.now name.now }
+{
+    word == name.as_bytes()
+}
+
 #[tactic(auto, unfolding(crate::specs::Token::key_named))]
 fn key_of(word: &[u8]) -> Key
     ensures { result ≡ key_named word.now }
 {
-    if word == b"graph".as_slice() {
+    if is_word(word, "graph") {
         return Key::Graph;
     }
-    if word == b"directed".as_slice() {
+    if is_word(word, "directed") {
         return Key::Directed;
     }
-    if word == b"node".as_slice() {
+    if is_word(word, "node") {
         return Key::Node;
     }
-    if word == b"edge".as_slice() {
+    if is_word(word, "edge") {
         return Key::Edge;
     }
-    if word == b"id".as_slice() {
+    if is_word(word, "id") {
         return Key::Id;
     }
-    if word == b"host_bandwidth_up".as_slice() {
+    if is_word(word, "host_bandwidth_up") {
         return Key::HostBandwidthUp;
     }
-    if word == b"host_bandwidth_down".as_slice() {
+    if is_word(word, "host_bandwidth_down") {
         return Key::HostBandwidthDown;
     }
-    if word == b"label".as_slice() {
+    if is_word(word, "label") {
         return Key::Label;
     }
-    if word == b"source".as_slice() {
+    if is_word(word, "source") {
         return Key::Source;
     }
-    if word == b"target".as_slice() {
+    if is_word(word, "target") {
         return Key::Target;
     }
-    if word == b"latency".as_slice() {
+    if is_word(word, "latency") {
         return Key::Latency;
     }
-    if word == b"packet_loss".as_slice() {
+    if is_word(word, "packet_loss") {
         return Key::PacketLoss;
     }
-    if word == b"jitter".as_slice() {
+    if is_word(word, "jitter") {
         return Key::Jitter;
     }
     Key::Other

@@ -136,7 +136,10 @@ edge [ source 5 target 4 latency "2 ns" packet_loss 0.100000000 ]
 /// The graph of these edges.
 fn graph_of(alloc: Global, edges: &str) -> Result<Graph, Fail> {
     let text = format!(in alloc; "graph [ {NODES} {edges} ]")?;
-    Ok(read_gml(alloc, text.as_bytes())?)
+    match read_gml(alloc, text.as_bytes()) {
+        Ok(graph) => Ok(graph),
+        Err(_) => Err(Fail::new("no graph")),
+    }
 }
 
 fn numbers(alloc: Global, text: &str) -> Result<Vec<u32>, Fail> {
