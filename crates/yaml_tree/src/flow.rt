@@ -1,7 +1,7 @@
 //! Flow forms, piece by piece given to the builder.
 
 ghost use Rattle.std.specs.Prelude.{◌≡◌, Some, None, OnOk, IfOk};
-ghost use Rattle.yaml_tree.specs.inside.Builder.{put_known, cell_node, flushed, cell_opened, cell_closed, cell_key, alias_found, cell_alias, take_piece, take_pieces};
+ghost use Rattle.yaml_tree.specs.inside.Builder.{put_known, cell_node, flushed, is_curly, cell_opened, cell_closed, cell_key, alias_found, cell_alias, take_piece, take_pieces};
 
 use crate::builder::{Builder, scalar_value};
 use crate::known::{GivenName, KnownNode, Measure};
@@ -42,10 +42,10 @@ impl Builder {
     fn flush(&mut self, line: usize) -> Result<(), NoMemory>
         ensures { OnOk result (self.new ≡ flushed line self.old) }
     {
-        if self.name.is_some() {
-            self.cell_node(line, Value::Null, Measure::one_node())?;
+        if self.name.is_none() {
+            return Ok(());
         }
-        Ok(())
+        self.cell_node(line, Value::Null, Measure::one_node())
     }
 
     #[tactic(auto, unfolding(crate::specs::inside::Builder::cell_opened))]
@@ -54,7 +54,7 @@ impl Builder {
     {
         let name = self.name.take();
         let none = Scalar::new();
-        let curly = bracket == Bracket::Curly;
+        let curly = is_curly(bracket);
         let open = Open::new(self.alloc, 0, curly, line, none, name);
         self.cells.push(open)
     }
@@ -134,5 +134,14 @@ impl Builder {
             self.take_piece(line, piece)?;
         }
         Ok(())
+    }
+}
+
+fn is_curly(bracket: Bracket) -> bool
+    ensures { result ≡ is_curly bracket }
+{
+    match bracket {
+        Bracket::Square => false,
+        Bracket::Curly => true,
     }
 }

@@ -13,7 +13,7 @@ use std::marker::Model;
 use yaml_tokens::{BarePiece, Bracket, Odd, PieceKind, Pieces, closes_at};
 
 /// What may come next in a flow form.
-#[derive(Clone, Copy, PartialEq, Eq)]
+#[derive(Clone, Copy)]
 pub enum Want {
     /// The opening bracket.
     Form,
@@ -116,20 +116,32 @@ impl Shape {
     fn takes_form(&self) -> bool
         ensures { result ≡ takes_form self.now.want self.now.brackets }
     {
-        self.want == Want::Form || self.takes_value()
+        match self.want {
+            Want::Form => true,
+            Want::Cell | Want::Value | Want::Named | Want::End | Want::Nothing => {
+                self.takes_value()
+            }
+        }
     }
 
     /// Whether an anchor, or an alias, may come.
     fn takes_name(&self) -> bool
         ensures { result ≡ takes_name self.now.want self.now.brackets }
     {
-        self.want != Want::Named && self.takes_value()
+        match self.want {
+            Want::Cell => self.brackets.is_in(Bracket::Square),
+            Want::Value => true,
+            Want::Form | Want::Named | Want::End | Want::Nothing => false,
+        }
     }
 
     fn takes_key(&self) -> bool
         ensures { result ≡ takes_key self.now.want self.now.brackets }
     {
-        self.want == Want::Cell && !self.brackets.is_in(Bracket::Square)
+        match self.want {
+            Want::Cell => !self.brackets.is_in(Bracket::Square),
+            Want::Form | Want::Value | Want::Named | Want::End | Want::Nothing => false,
+        }
     }
 
     fn takes_comma(&self) -> bool
