@@ -20,7 +20,7 @@ mod text;
 mod timer;
 
 pub use carried::{Carried, Counts, add_carried};
-pub use conn::{BUFFER_SIZE, Conn};
+pub use conn::Conn;
 pub use effects::{Draft, Effects, Opened, Shut};
 pub use lookup::place_in;
 pub use readiness::bit_if;

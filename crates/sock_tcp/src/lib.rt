@@ -6,6 +6,6 @@ mod connection;
 mod listener;
 mod segment;
 
-pub use connection::{BUFFER_SIZE, Carried, Conn, Counts, Effects, Opened, Shut};
-pub use listener::{Listener, MAX_BACKLOG};
+pub use connection::{Carried, Conn, Counts, Effects, Opened, Shut};
+pub use listener::Listener;
 pub use segment::{Congestion, Control, Distance, Header, Phase, TcpState, Verdict, refusal};

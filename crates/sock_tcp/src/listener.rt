@@ -13,7 +13,7 @@ use sim_base::Addr;
 use std::alloc::Global;
 
 /// The most connections that a listener keeps.
-pub const MAX_BACKLOG: usize = 128;
+const MAX_BACKLOG: usize = 128;
 
 /// How many connections a listener keeps for what the process asked: at least 1 and at most 128.
 fn queue_limit(backlog: i32) -> usize

@@ -8,7 +8,7 @@ use crate::segment::Control;
 use circular_buffer::HeapCircularBuffer;
 
 /// How many bytes the send buffer holds, and how many the receive buffer does.
-pub const BUFFER_SIZE: usize = 65_535;
+pub(crate) const BUFFER_SIZE: usize = 65_535;
 
 /// A connection. It keeps the number of the first byte that isn't acknowledged (SND.UNA), how far
 /// the next one to send (SND.NXT) and the highest one sent are from it, how many duplicate
