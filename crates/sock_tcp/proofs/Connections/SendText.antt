@@ -1,17 +1,19 @@
 -- the text that goes out is what the definition says
-use Rattle.std.proofs.Common.{◌≡◌, ℕ, ◌+◌, ◌-◌, ◌<◌, ◌≤◌, List, [], ◌∷◌, ◌++◌, length, take, drop, min, max, true, sym, ap, subst, append-nil, ◌∙◌, arith}
+use Rattle.std.proofs.Common.{◌≡◌, ℕ, ◌+◌, ◌-◌, ◌<◌, ◌≤◌, List, [], ◌∷◌, ◌++◌, length, take, drop, min, max, Bool, true, if◌then◌else◌, ◌==◌, sym, ap, subst, append-nil, ◌∙◌, arith}
+use Rattle.std.proofs.lemmas.Bool.{and_parts}
+use Rattle.std.proofs.lemmas.Bool.Decides.{nat_tests}
 use Rattle.std.proofs.lemmas.List.{length-drop, length-take, drop-drop, take_min}
 use Rattle.sim_base.specs.declared.packet.Packet.{Packet}
 use Rattle.sock_tcp.specs.declared.connection.conn.Conn.{Conn}
 use Rattle.sock_tcp.specs.declared.connection.effects.Draft.{Draft}
 use Rattle.sock_tcp.specs.segment.Number.{wire}
 use Rattle.sock_tcp.specs.segment.State.{phase_of, is_sending}
-use Rattle.sock_tcp.specs.connection.Tcb.{Tcb, Turn, data_end, own_window}
-use Rattle.sock_tcp.specs.connection.Segment.{with_ack}
+use Rattle.sock_tcp.specs.connection.Tcb.{Tcb, Turn, data_end, own_window, changed}
+use Rattle.sock_tcp.specs.connection.Segment.{with_ack, sends}
 use Rattle.sock_tcp.specs.connection.Retransmission.{unacknowledged, probe_length, sends_again_text}
-use Rattle.sock_tcp.specs.connection.Output.{pieces, text_segments, send_limit, to_send, sends_text}
+use Rattle.sock_tcp.specs.connection.Output.{pieces, text_segments, send_limit, to_send, sends_text, fin_is_next, moves_next, sends_fin}
 use Rattle.sock_tcp.specs.connection.StandsFor.{StandsFor, Stands, FitsPhase}
-use Rattle.sock_tcp.proofs.Connections.Phases.{unacknowledged_ends, FitsPhase_next}
+use Rattle.sock_tcp.proofs.Connections.Phases.{unacknowledged_ends, FitsPhase_next, FitsPhase_fin}
 use Rattle.sock_tcp.proofs.Connections.Pieces.{text_segments_wire, text_segments_none}
 
 -- the window that the code tells
@@ -147,3 +149,37 @@ stands_sends_again_text c c' d d' count text p t h e sending counted text_is p_i
       segments = segments ∙ (ap (λ xs. xs ++ p ∷ []) h.segments ∙ ap (λ q. t.sent ++ q ∷ []) (p_is ∙ (ap (λ n. with_ack r 16 n text) zero_is ∙ ap (λ xs. with_ack r 16 r.una xs) same)));
       started = started ∙ h.started;
     }
+
+same_number : (a b : ℕ) → (a == b) ≡ true → a ≡ b
+same_number a b e = grind (arith, nat_tests)
+
+-- the FIN, once all text was sent
+pub stands_sends_fin : (c c' : Conn) (d d' : Draft) (p : Packet) (t : Turn) → Stands c d t → SendsTo c c' (length c.send.items + 1) → is_sending c.control.state ≡ true → fin_is_next t.tcb ≡ true → p ≡ with_ack t.tcb 17 (t.tcb.una + c.sent) [] → d'.segments.items ≡ d.segments.items ++ p ∷ [] → d'.started ≡ d.started → Stands c' d' (sends_fin t)
+unfolding sends_fin
+stands_sends_fin c c' d d' p t h e sending due p_is segments started =
+    let r = t.tcb in
+    let s : is_sending r.control.state ≡ true = sym (ap (λ k. is_sending k.state) h.conn.control) ∙ sending in
+    let ends = unacknowledged_ends c r h.conn s in
+    let parts = and_parts (r.nxt == data_end r) r.control.fin_wanted due in
+    let all : r.nxt ≡ data_end r = same_number r.nxt (data_end r) parts.0 in
+    let next : r.una + (length c.send.items + 1) ≡ r.nxt + 1 = omega (arith, ends.0, all) in
+    let sent : Turn = changed (moves_next (r.nxt + 1)) (sends (with_ack r 17 r.nxt []) t) in
+    subst (λ (x : Turn). Stands c' d' x) (sym (ap (λ (b : Bool). if b then sent else t) due))
+    (record {
+      conn = record {
+        control = e.control ∙ h.conn.control;
+        una = e.una ∙ h.conn.una;
+        next = ap (λ n. r.una + n) e.sent ∙ next;
+        highest = ap (λ n. r.una + n) e.highest ∙ h.conn.highest;
+        duplicates = e.duplicates ∙ h.conn.duplicates;
+        recover = e.recover ∙ h.conn.recover;
+        rcv = e.rcv ∙ h.conn.rcv;
+        counts = e.counts ∙ h.conn.counts;
+        send = ap (λ b. b.items) e.send ∙ h.conn.send;
+        receive = ap (λ b. b.items) e.receive ∙ h.conn.receive;
+        read = h.conn.read;
+        phase = FitsPhase_fin (phase_of r.control.state) _ _ _ _ _ (r.nxt + 1) s parts.1 (omega (arith, all)) h.conn.phase;
+      };
+      segments = segments ∙ (ap (λ xs. xs ++ p ∷ []) h.segments ∙ ap (λ q. t.sent ++ q ∷ []) (p_is ∙ ap (λ n. with_ack r 17 n []) h.conn.next));
+      started = started ∙ h.started;
+    })

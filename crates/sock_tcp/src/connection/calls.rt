@@ -43,7 +43,10 @@ impl Conn {
             duplicates: 0,
             recover: 0,
             rcv,
-            counts: Counts::none(),
+            counts: Counts {
+                written: 0,
+                read: 0,
+            },
             send,
             receive,
         })

@@ -40,17 +40,6 @@ impl Counts {
     ghost use Rattle.std.specs.Prelude.{◌≡◌, ◌+◌};
     ghost use Rattle.sock_tcp.specs.connection.Carried.{counted};
 
-    /// Nothing was carried yet.
-    pub(crate) fn none() -> Counts
-        ensures written { result.written ≡ 0 }
-        ensures read { result.read ≡ 0 }
-    {
-        Counts {
-            written: 0,
-            read: 0,
-        }
-    }
-
     /// The process wrote some bytes more.
     pub(crate) fn wrote(self, more: usize) -> Counts
         ensures { result ≡ record self { written = counted (self.written + more) } }

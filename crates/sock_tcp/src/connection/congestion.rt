@@ -8,7 +8,7 @@ use sim_base::NoMemory;
 impl Conn {
     ghost use Rattle.std.specs.Prelude.{◌≡◌, ◌-◌, length, OnOk};
     ghost use Rattle.sock_tcp.specs.connection.Tcb.{Tcb};
-    ghost use Rattle.sock_tcp.specs.connection.Congestion.{flight_of, is_third, tells_loss, after_duplicate, is_duplicate};
+    ghost use Rattle.sock_tcp.specs.connection.Congestion.{flight_of, tells_loss, after_duplicate, is_duplicate};
     ghost use Rattle.sock_tcp.specs.connection.Arrival.{duplicate_heard, hears_duplicate, notices};
     ghost use Rattle.sock_tcp.specs.connection.StandsFor.{StandsFor, Does};
 
@@ -25,18 +25,11 @@ impl Conn {
             && header.window == self.control.window
     }
 
-    /// Whether the next duplicate is the third.
-    fn is_third(&self) -> bool
-        ensures { (r : Tcb) → StandsFor self.now r → result ≡ is_third (flight_of r) }
-    {
-        self.duplicates == 2
-    }
-
-    /// Whether the next duplicate tells of a loss that wasn't noticed yet.
+    /// Whether the next duplicate is the third, and tells of a loss that wasn't noticed yet.
     fn tells_loss(&self) -> bool
         ensures { (r : Tcb) → StandsFor self.now r → result ≡ tells_loss r.una (flight_of r) }
     {
-        self.is_third() && self.recover == 0
+        self.duplicates == 2 && self.recover == 0
     }
 
     /// The window after a duplicate, which tells of a loss or doesn't.

@@ -7,18 +7,10 @@ use sim_base::{Errno, NoMemory};
 impl Conn {
     ghost use Rattle.std.specs.Prelude.{◌≡◌, ◌<◌, OnOk};
     ghost use Rattle.sock_tcp.specs.connection.Tcb.{Tcb};
-    ghost use Rattle.sock_tcp.specs.connection.Timer.{is_in_flight};
     ghost use Rattle.sock_tcp.specs.connection.Congestion.{happens};
     ghost use Rattle.sock_tcp.specs.connection.Congestion.CongestionEvent.{times_out};
     ghost use Rattle.sock_tcp.specs.connection.Process.{backs_off, counts_expiry, retries_once, gives_up, expires_running, expires};
     ghost use Rattle.sock_tcp.specs.connection.StandsFor.{StandsFor, Does};
-
-    /// Whether text or the FIN is in flight.
-    fn is_in_flight(&self) -> bool
-        ensures { (r : Tcb) → StandsFor self.now r → result ≡ is_in_flight r }
-    {
-        self.highest > 0
-    }
 
     /// The window after an expiry with text or the FIN in flight.
     fn back_off(&mut self)
@@ -38,8 +30,7 @@ impl Conn {
         ensures stands { (r : Tcb) → StandsFor self.old r → StandsFor self.new (backs_off r) }
         ensures retries { self.new.control.retries ≡ self.old.control.retries }
     {
-        let synchronized = self.control.state.is_synchronized();
-        if synchronized && self.is_in_flight() {
+        if self.control.state.is_synchronized() && self.highest > 0 {
             self.back_off();
         }
     }

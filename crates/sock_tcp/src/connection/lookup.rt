@@ -3,7 +3,7 @@
 ghost use Rattle.std.specs.Prelude.{◌≡◌, ◌≤◌, List, length, position};
 ghost use Rattle.sock_tcp.specs.connection.Tcb.{Tcb};
 ghost use Rattle.sim_base.specs.Addresses.{is_same};
-ghost use Rattle.sock_tcp.specs.connection.Pairs.{is_pair, place_in, is_segment, takes};
+ghost use Rattle.sock_tcp.specs.connection.Pairs.{is_pair, place_in, takes};
 ghost use Rattle.sock_tcp.specs.connection.StandsFor.{StandsAll};
 
 use crate::connection::conn::Conn;
@@ -40,13 +40,6 @@ pub fn place_in(conns: &[Conn], own: Addr, other: Addr) -> usize
     position_in(conns, own, other).unwrap_or(conns.len())
 }
 
-/// Whether it is a segment of TCP.
-fn is_segment(load: &Load) -> bool
-    ensures { result ≡ is_segment load.now }
-{
-    matches!(load, Load::Tcp { .. })
-}
-
 impl Conn {
     ghost use Rattle.sock_tcp.specs.connection.StandsFor.{StandsFor};
 
@@ -54,6 +47,6 @@ impl Conn {
     pub fn takes(&self, packet: &Packet) -> bool
         ensures { (r : Tcb) → StandsFor self.now r → result ≡ takes packet.now r.control }
     {
-        is_segment(&packet.load) && is_pair(self, packet.to, packet.from)
+        matches!(packet.load, Load::Tcp { .. }) && is_pair(self, packet.to, packet.from)
     }
 }

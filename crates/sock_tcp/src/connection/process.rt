@@ -16,9 +16,9 @@ fn raises_window(before: u16, after: u16) -> bool
 
 impl Conn {
     ghost use Rattle.std.specs.Prelude.{◌≡◌, ◌++◌, length, drop, false, nat_lt, OnOk};
-    ghost use Rattle.sock_tcp.specs.connection.Tcb.{Tcb, unread, with_control, changed};
+    ghost use Rattle.sock_tcp.specs.connection.Tcb.{Tcb, unread, with_control};
     ghost use Rattle.sock_tcp.specs.segment.State.{is_opening};
-    ghost use Rattle.sock_tcp.specs.connection.Process.{bytes_taken, writes, bytes_read, reads, pays_ack, flows, ends_writing, ends_reading, shuts_end, shuts, socket_closed, closes_socket, closes};
+    ghost use Rattle.sock_tcp.specs.connection.Process.{bytes_taken, writes, bytes_read, reads, pays_ack, flows, ends_writing, ends_reading, shuts_end, shuts, closes_socket, closes};
     ghost use Rattle.sock_tcp.specs.segment.Control.{writing_ended};
     ghost use Rattle.sock_tcp.specs.connection.StandsFor.{StandsFor, Does};
 
@@ -151,18 +151,11 @@ impl Conn {
         self.end_writing(draft)
     }
 
-    /// Marks the socket as closed.
-    fn mark_closed(&mut self, draft: &Draft)
-        ensures { Does (changed (with_control socket_closed)) self.old draft.now self.new draft.now }
-    {
-        self.control.closed = true;
-    }
-
     #[tactic(auto, unfolding(crate::specs::connection::Process::closes))]
     pub(crate) fn close(&mut self, draft: &mut Draft) -> Result<(), NoMemory>
         ensures { OnOk result (Does closes self.old draft.old self.new draft.new) }
     {
-        self.mark_closed(draft);
+        self.control.closed = true;
         self.close_socket(draft)?;
         self.judge(draft);
         Ok(())

@@ -1,7 +1,7 @@
 //! What the socket of a connection is ready for, by the bits of `poll(2)`.
 
 ghost use Rattle.std.specs.Prelude.{◌≡◌};
-ghost use Rattle.sock_tcp.specs.connection.Ready.{reading_is_over, writing_is_over, has_error, is_hung_up, bit_if};
+ghost use Rattle.sock_tcp.specs.connection.Ready.{reading_is_over, has_error, is_hung_up, bit_if};
 
 use crate::connection::conn::Conn;
 use crate::segment::Control;
@@ -19,12 +19,6 @@ fn reading_is_over(control: Control) -> bool
     control.fin_taken || control.reading_ended
 }
 
-fn writing_is_over(control: Control) -> bool
-    ensures { result ≡ writing_is_over control }
-{
-    control.fin_wanted
-}
-
 fn has_error(control: Control) -> bool
     ensures { result ≡ has_error control }
 {
@@ -34,7 +28,7 @@ fn has_error(control: Control) -> bool
 fn is_hung_up(control: Control) -> bool
     ensures { result ≡ is_hung_up control }
 {
-    (reading_is_over(control) && writing_is_over(control)) || control.state.is_over()
+    (reading_is_over(control) && control.fin_wanted) || control.state.is_over()
 }
 
 impl Conn {
@@ -51,7 +45,7 @@ impl Conn {
     fn can_write(&self) -> bool
         ensures { (r : Tcb) → StandsFor self.now r → result ≡ can_write r }
     {
-        self.room() > 0 || writing_is_over(self.control) || has_error(self.control)
+        self.room() > 0 || self.control.fin_wanted || has_error(self.control)
     }
 
     fn connected_readiness(&self) -> u16

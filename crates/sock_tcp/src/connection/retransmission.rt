@@ -10,7 +10,7 @@ impl Conn {
     ghost use Rattle.sock_tcp.specs.segment.State.{is_sending};
     ghost use Rattle.sock_tcp.specs.connection.Tcb.{Tcb, Turn, data_end, changed};
     ghost use Rattle.sock_tcp.specs.connection.Output.{moves_next};
-    ghost use Rattle.sock_tcp.specs.connection.Retransmission.{sends_again_text, sends_again, sends_syn, sends_syn_again, sends_one};
+    ghost use Rattle.sock_tcp.specs.connection.Retransmission.{sends_again_text, sends_again, sends_syn_again, sends_one};
     ghost use Rattle.sock_tcp.specs.connection.StandsFor.{StandsFor, Stands, Does};
 
     /// One segment of text from the first byte that isn't acknowledged on, at least one byte of it
@@ -62,21 +62,13 @@ impl Conn {
         }
     }
 
-    #[tactic(auto, unfolding(crate::specs::connection::Retransmission::sends_syn))]
-    fn send_syn(&self, draft: &mut Draft) -> Result<(), NoMemory>
-        ensures { OnOk result (Does sends_syn self.now draft.old self.now draft.new) }
-    {
-        let seq = self.number(0);
-        draft.send(self.control.without_ack(self.alloc(), SYN, seq))?;
-        Ok(())
-    }
-
-    #[tactic(auto, unfolding(crate::specs::connection::Retransmission::sends_syn_again))]
+    #[tactic(auto, unfolding(crate::specs::connection::Retransmission::sends_syn, crate::specs::connection::Retransmission::sends_syn_again))]
     fn send_syn_again(&self, draft: &mut Draft) -> Result<(), NoMemory>
         ensures { OnOk result (Does sends_syn_again self.now draft.old self.now draft.new) }
     {
         if self.control.state.is_syn_sent() {
-            self.send_syn(draft)
+            let seq = self.number(0);
+            draft.send(self.control.without_ack(self.alloc(), SYN, seq))
         } else {
             self.send_syn_ack(draft)
         }

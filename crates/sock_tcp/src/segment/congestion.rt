@@ -42,7 +42,7 @@ fn threshold_after(in_flight: usize) -> u16
 }
 
 impl Congestion {
-    ghost use Rattle.sock_tcp.specs.segment.Congestion.{fresh_congestion, opened_window, growth, grown, acknowledged, halved, timed_out};
+    ghost use Rattle.sock_tcp.specs.segment.Congestion.{fresh_congestion, opened_window, growth, acknowledged, halved, timed_out};
 
     /// That of a connection whose SYN was just sent.
     pub fn new() -> Congestion
@@ -75,21 +75,18 @@ impl Congestion {
         }
     }
 
-    fn grown(self, by: u32) -> Congestion
-        ensures { result ≡ grown by self }
+    /// As many more as `by` are acknowledged, perhaps none.
+    pub fn acknowledged(self, by: u32) -> Congestion
+        ensures { result ≡ acknowledged by self }
     {
+        if by == 0 {
+            return self;
+        }
         let cwnd = u32::from(self.cwnd) + self.growth(by);
         Congestion {
             cwnd: cwnd.min(u32::from(u16::MAX)) as u16,
             ..self
         }
-    }
-
-    /// As many more as `by` are acknowledged, perhaps none.
-    pub fn acknowledged(self, by: u32) -> Congestion
-        ensures { result ≡ acknowledged by self }
-    {
-        if by > 0 { self.grown(by) } else { self }
     }
 
     /// A segment was lost, as duplicate acknowledgements tell.
