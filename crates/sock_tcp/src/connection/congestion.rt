@@ -9,7 +9,7 @@ impl Conn {
     ghost use Rattle.std.specs.Prelude.{◌≡◌, ◌-◌, length, OnOk};
     ghost use Rattle.sock_tcp.specs.connection.Tcb.{Tcb};
     ghost use Rattle.sock_tcp.specs.connection.Congestion.{flight_of, tells_loss, after_duplicate, is_duplicate};
-    ghost use Rattle.sock_tcp.specs.connection.Arrival.{duplicate_heard, hears_duplicate, notices};
+    ghost use Rattle.sock_tcp.specs.connection.Arrival.{duplicate_heard, notices};
     ghost use Rattle.sock_tcp.specs.connection.StandsFor.{StandsFor, Does};
 
     /// Whether a segment that acknowledges as many more as `by` is a duplicate acknowledgement.
@@ -64,25 +64,17 @@ impl Conn {
         self.recover = recover;
     }
 
-    #[tactic(auto, unfolding(crate::specs::connection::Arrival::hears_duplicate))]
-    fn hear_duplicate(&mut self, draft: &mut Draft) -> Result<(), NoMemory>
-        ensures { OnOk result (Does hears_duplicate self.old draft.old self.new draft.new) }
-    {
-        let lost = self.tells_loss();
-        self.count_duplicate(lost);
-        if lost {
-            self.send_one(draft)?;
-        }
-        Ok(())
-    }
-
     /// Hears a duplicate acknowledgement, if it is one.
-    #[tactic(auto, unfolding(crate::specs::connection::Arrival::notices))]
+    #[tactic(auto, unfolding(crate::specs::connection::Arrival::notices, crate::specs::connection::Arrival::hears_duplicate))]
     pub(crate) fn notice(&mut self, draft: &mut Draft, duplicate: bool) -> Result<(), NoMemory>
         ensures { OnOk result (Does (notices duplicate) self.old draft.old self.new draft.new) }
     {
         if duplicate {
-            self.hear_duplicate(draft)?;
+            let lost = self.tells_loss();
+            self.count_duplicate(lost);
+            if lost {
+                self.send_one(draft)?;
+            }
         }
         Ok(())
     }

@@ -9,7 +9,7 @@ impl Conn {
     ghost use Rattle.sock_tcp.specs.connection.Tcb.{Tcb};
     ghost use Rattle.sock_tcp.specs.connection.Congestion.{happens};
     ghost use Rattle.sock_tcp.specs.connection.Congestion.CongestionEvent.{times_out};
-    ghost use Rattle.sock_tcp.specs.connection.Process.{backs_off, counts_expiry, retries_once, gives_up, expires_running, expires};
+    ghost use Rattle.sock_tcp.specs.connection.Process.{backs_off, counts_expiry, retries_once, expires_running, expires};
     ghost use Rattle.sock_tcp.specs.connection.StandsFor.{StandsFor, Does};
 
     /// The window after an expiry with text or the FIN in flight.
@@ -57,19 +57,8 @@ impl Conn {
         Ok(())
     }
 
-    /// Gives up.
-    #[tactic(auto, unfolding(crate::specs::connection::Process::gives_up))]
-    fn give_up(&mut self, draft: &Draft)
-        ensures { Does gives_up self.old draft.now self.new draft.now }
-    {
-        if self.control.state.is_syn_received() {
-            self.vanish(draft);
-        } else {
-            self.end(draft, Errno::Etimedout);
-        }
-    }
-
-    #[tactic(auto, unfolding(crate::specs::connection::Process::expires_running))]
+    /// At the seventh expiry in a row it gives up.
+    #[tactic(auto, unfolding(crate::specs::connection::Process::expires_running, crate::specs::connection::Process::gives_up))]
     fn expire_running(&mut self, draft: &mut Draft) -> Result<(), NoMemory>
         ensures { OnOk result (Does expires_running self.old draft.old self.new draft.new) }
     {
@@ -77,8 +66,10 @@ impl Conn {
             self.vanish(draft);
         } else if self.control.retries < 6 {
             self.retry(draft)?;
+        } else if self.control.state.is_syn_received() {
+            self.vanish(draft);
         } else {
-            self.give_up(draft);
+            self.end(draft, Errno::Etimedout);
         }
         Ok(())
     }

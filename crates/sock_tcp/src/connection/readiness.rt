@@ -1,7 +1,7 @@
 //! What the socket of a connection is ready for, by the bits of `poll(2)`.
 
 ghost use Rattle.std.specs.Prelude.{◌≡◌};
-ghost use Rattle.sock_tcp.specs.connection.Ready.{reading_is_over, has_error, is_hung_up, bit_if};
+ghost use Rattle.sock_tcp.specs.connection.Ready.{reading_is_over, is_hung_up, bit_if};
 
 use crate::connection::conn::Conn;
 use crate::segment::Control;
@@ -19,12 +19,6 @@ fn reading_is_over(control: Control) -> bool
     control.fin_taken || control.reading_ended
 }
 
-fn has_error(control: Control) -> bool
-    ensures { result ≡ has_error control }
-{
-    control.error.is_some()
-}
-
 fn is_hung_up(control: Control) -> bool
     ensures { result ≡ is_hung_up control }
 {
@@ -39,13 +33,13 @@ impl Conn {
     fn can_read(&self) -> bool
         ensures { (r : Tcb) → StandsFor self.now r → result ≡ can_read r }
     {
-        self.unread() > 0 || reading_is_over(self.control) || has_error(self.control)
+        self.unread() > 0 || reading_is_over(self.control) || self.control.error.is_some()
     }
 
     fn can_write(&self) -> bool
         ensures { (r : Tcb) → StandsFor self.now r → result ≡ can_write r }
     {
-        self.room() > 0 || self.control.fin_wanted || has_error(self.control)
+        self.room() > 0 || self.control.fin_wanted || self.control.error.is_some()
     }
 
     fn connected_readiness(&self) -> u16
@@ -53,7 +47,7 @@ impl Conn {
     {
         let reading = bit_if(self.can_read(), POLLIN);
         let writing = bit_if(self.can_write(), POLLOUT);
-        let error = bit_if(has_error(self.control), POLLERR);
+        let error = bit_if(self.control.error.is_some(), POLLERR);
         let hangup = bit_if(is_hung_up(self.control), POLLHUP);
         (reading | writing) | (error | hangup)
     }

@@ -8,10 +8,9 @@ use sim_base::{ACK, MAX_SEGMENT, NoMemory, SYN};
 impl Conn {
     ghost use Rattle.std.specs.Prelude.{◌≡◌, nat_lt, true, OnOk};
     ghost use Rattle.sock_tcp.specs.segment.State.{is_sending};
-    ghost use Rattle.sock_tcp.specs.connection.Tcb.{Tcb, Turn, data_end, changed};
-    ghost use Rattle.sock_tcp.specs.connection.Output.{moves_next};
+    ghost use Rattle.sock_tcp.specs.connection.Tcb.{Tcb, data_end};
     ghost use Rattle.sock_tcp.specs.connection.Retransmission.{sends_again_text, sends_again, sends_syn_again, sends_one};
-    ghost use Rattle.sock_tcp.specs.connection.StandsFor.{StandsFor, Stands, Does};
+    ghost use Rattle.sock_tcp.specs.connection.StandsFor.{StandsFor, Does};
 
     /// One segment of text from the first byte that isn't acknowledged on, at least one byte of it
     /// even where the peer's window is 0.
@@ -27,16 +26,6 @@ impl Conn {
         draft.send(self.with_ack(ACK, 0, text))?;
         self.sent = count;
         Ok(())
-    }
-
-    /// What is next to send goes back to the first byte that isn't acknowledged.
-    fn go_back(&mut self, draft: &Draft)
-        requires { is_sending self.old.control.state ≡ true }
-        ensures does { (t : Turn) → Stands self.old draft.now t
-            → Stands self.new draft.now (changed (moves_next t.tcb.una) t) }
-        ensures control { self.new.control ≡ self.old.control }
-    {
-        self.sent = 0;
     }
 
     /// Whether text isn't acknowledged yet.
@@ -57,7 +46,7 @@ impl Conn {
         if self.has_text() {
             self.send_again_text(draft)
         } else {
-            self.go_back(draft);
+            self.sent = 0;
             self.send_fin(draft)
         }
     }
