@@ -3,18 +3,20 @@ use Rattle.std.proofs.Common.{◌≡◌, ℕ, ◌+◌, ◌-◌, ◌≤◌, List,
 use Rattle.std.proofs.lemmas.List.{drop-drop, drop-append-le, length-drop, length-take, take_min}
 use Rattle.circular_buffer.specs.Buffer.{Buffer}
 use Rattle.sock_tcp.specs.declared.connection.conn.Conn.{Conn}
+use Rattle.sock_tcp.specs.declared.connection.effects.Draft.{Draft}
 use Rattle.sock_tcp.specs.declared.segment.control.Control.{Control}
 use Rattle.sock_tcp.specs.declared.segment.state.TcpState.{TcpState}
 use Rattle.sock_tcp.specs.declared.segment.state.TcpState.TheVariants.{SynSent, SynReceived, Established, FinWait1, FinWait2, CloseWait, Closing, LastAck, TimeWait, Ended, Vanished}
 use Rattle.sock_tcp.specs.declared.segment.state.Phase.{Phase}
 use Rattle.sock_tcp.specs.declared.segment.state.Phase.TheVariants.{Opening, Open, Ending, Finished, Over}
 use Rattle.sock_tcp.specs.segment.State.{phase_of, is_over, is_opening, after_writing}
-use Rattle.sock_tcp.specs.connection.Tcb.{Tcb, data_end, unread, with_control}
+use Rattle.sock_tcp.specs.connection.Tcb.{Tcb, Turn, data_end, unread, with_control, changed}
 use Rattle.sock_tcp.specs.segment.Control.{takes_bytes, finds_end, control_read, writing_ended}
-use Rattle.sock_tcp.specs.connection.Process.{room, bytes_taken, writes, raises_window, reads}
+use Rattle.sock_tcp.specs.connection.Segment.{sends_ack}
+use Rattle.sock_tcp.specs.connection.Process.{room, bytes_taken, writes, raises_window, reads, ack_paid, pays_ack}
 use Rattle.sock_tcp.specs.declared.connection.carried.Counts.{Counts}
 use Rattle.sock_tcp.specs.connection.Carried.{counted, counts_of}
-use Rattle.sock_tcp.specs.connection.StandsFor.{StandsFor, FitsPhase}
+use Rattle.sock_tcp.specs.connection.StandsFor.{StandsFor, Stands, FitsPhase}
 
 -- the numbers and lists stay
 pub record SameLists (c c' : Conn) : Type 0 where
@@ -44,6 +46,19 @@ stands_control c c' r f h e k p = record {
   read = h.read;
   phase = p;
 }
+
+-- the ACK that was owed is sent, and owed no more
+pub stands_pays : (c c' : Conn) (d d' : Draft) (t : Turn) → Stands c d t → c.control.owes_ack ≡ true → Stands c d' (sends_ack t) → SameLists c c' → c'.control ≡ ack_paid c.control → Stands c' d' (pays_ack t)
+unfolding pays_ack
+stands_pays c c' d d' t h owes sent e k =
+    let owed : t.tcb.control.owes_ack ≡ true = sym (ap (λ x. x.owes_ack) h.conn.control) ∙ owes in
+    let paid : Turn = changed (with_control ack_paid) (sends_ack t) in
+    subst (λ (x : Turn). Stands c' d' x) (sym (ap (λ (b : Bool). if b then paid else t) owed))
+    (record {
+      conn = stands_control c c' (sends_ack t).tcb ack_paid sent.conn e k sent.conn.phase;
+      segments = sent.segments;
+      started = sent.started;
+    })
 
 -- the end of writing
 pub phase_writing_ended : (state : TcpState) (wanted : Bool) (una nxt highest end : ℕ) → is_opening state ≡ false → una ≤ nxt → FitsPhase (phase_of state) wanted una nxt highest end → FitsPhase (phase_of (after_writing state)) true una nxt highest end

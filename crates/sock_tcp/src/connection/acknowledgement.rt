@@ -8,18 +8,9 @@ impl Conn {
     ghost use Rattle.std.specs.Prelude.{◌≡◌, ◌≤◌, true};
     ghost use Rattle.sock_tcp.specs.connection.Tcb.{Tcb};
     ghost use Rattle.sock_tcp.specs.segment.State.{is_opening, is_synchronized};
-    ghost use Rattle.sock_tcp.specs.connection.Arrival.{peer_known, established, establishes, state_advanced, own_fin_acknowledged, advanced, restarts_timer, advances};
+    ghost use Rattle.sock_tcp.specs.connection.Arrival.{established, establishes, state_advanced, own_fin_acknowledged, advanced, restarts_timer, advances};
     ghost use Rattle.sock_tcp.specs.connection.Congestion.{still_counted};
     ghost use Rattle.sock_tcp.specs.connection.StandsFor.{StandsFor, Does};
-
-    /// Takes the number of the peer's SYN.
-    #[tactic(auto, unfolding(crate::specs::connection::Arrival::peer_known, crate::specs::segment::Number::wire))]
-    pub(crate) fn know_peer(&mut self, seq: u32)
-        ensures stands { (r : Tcb) → StandsFor self.old r → StandsFor self.new (peer_known seq r) }
-        ensures control { self.new.control ≡ self.old.control }
-    {
-        self.rcv = number_at(seq, 1);
-    }
 
     /// The own SYN is acknowledged.
     #[tactic(auto, unfolding(crate::specs::connection::Arrival::established), using(crate::proofs::Segments::Numbers::wires, crate::proofs::Connections::Phases::opening_offsets))]

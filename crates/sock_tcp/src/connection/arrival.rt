@@ -180,12 +180,12 @@ impl Conn {
     }
 
     /// The peer answers the own SYN with its own.
-    #[tactic(auto, unfolding(crate::specs::connection::Arrival::connects))]
+    #[tactic(auto, unfolding(crate::specs::connection::Arrival::connects, crate::specs::connection::Arrival::peer_known))]
     fn connect(&mut self, draft: &mut Draft, header: Header) -> Result<(), NoMemory>
         requires { is_opening self.old.control.state ≡ true }
         ensures { OnOk result (Does (connects header) self.old draft.old self.new draft.new) }
     {
-        self.know_peer(header.seq);
+        self.rcv = number_at(header.seq, 1);
         self.establish(draft, header.window);
         self.send_ack(draft)?;
         self.output(draft)?;

@@ -18,7 +18,7 @@ impl Conn {
     ghost use Rattle.std.specs.Prelude.{◌≡◌, ◌++◌, length, drop, false, nat_lt, OnOk};
     ghost use Rattle.sock_tcp.specs.connection.Tcb.{Tcb, unread, with_control};
     ghost use Rattle.sock_tcp.specs.segment.State.{is_opening};
-    ghost use Rattle.sock_tcp.specs.connection.Process.{bytes_taken, writes, bytes_read, reads, pays_ack, flows, ends_writing, ends_reading, shuts_end, shuts, closes_socket, closes};
+    ghost use Rattle.sock_tcp.specs.connection.Process.{bytes_taken, writes, bytes_read, reads, pays_ack, flows, ends_writing, shuts_end, shuts, closes_socket, closes};
     ghost use Rattle.sock_tcp.specs.segment.Control.{writing_ended};
     ghost use Rattle.sock_tcp.specs.connection.StandsFor.{StandsFor, Does};
 
@@ -97,23 +97,17 @@ impl Conn {
     }
 
     #[tactic(auto, unfolding(crate::specs::connection::Process::ends_reading))]
-    fn end_reading(&mut self, draft: &Draft)
-        ensures { Does ends_reading self.old draft.now self.new draft.now }
-    {
-        self.control.reading_ended = true;
-    }
-
     fn shut_end(&mut self, draft: &mut Draft, end: Shut) -> Result<(), NoMemory>
         ensures { OnOk result (Does (shuts_end end) self.old draft.old self.new draft.new) }
     {
         match end {
             Shut::Reading => {
-                self.end_reading(draft);
+                self.control.reading_ended = true;
                 Ok(())
             }
             Shut::Writing => self.end_writing(draft),
             Shut::Both => {
-                self.end_reading(draft);
+                self.control.reading_ended = true;
                 self.end_writing(draft)
             }
         }
