@@ -1,5 +1,6 @@
 -- what the phase of a record says of its offsets
-use Rattle.std.proofs.Common.{◌≡◌, ℕ, ◌+◌, ◌-◌, ◌≤◌, length, max, Bool, true, false, ap, ◌∙◌, arith}
+use Rattle.std.proofs.Common.{◌≡◌, ℕ, ◌+◌, ◌-◌, ◌≤◌, ◌==◌, nat_lt, length, max, Bool, true, false, not, sym, ap, ◌∙◌, arith}
+use Rattle.std.proofs.lemmas.Bool.Decides.{nat_tests}
 use Rattle.std.proofs.lemmas.List.{length-drop}
 use Rattle.sock_tcp.specs.declared.connection.conn.Conn.{Conn}
 use Rattle.sock_tcp.specs.declared.segment.state.TcpState.{TcpState}
@@ -7,7 +8,7 @@ use Rattle.sock_tcp.specs.declared.segment.state.TcpState.TheVariants.{SynSent, 
 use Rattle.sock_tcp.specs.declared.segment.state.Phase.{Phase}
 use Rattle.sock_tcp.specs.declared.segment.state.Phase.TheVariants.{Opening, Open, Ending, Finished, Over}
 use Rattle.sock_tcp.specs.segment.State.{phase_of, is_opening, is_sending, is_sending_phase}
-use Rattle.sock_tcp.specs.connection.Tcb.{Tcb, data_end}
+use Rattle.sock_tcp.specs.connection.Tcb.{Tcb, data_end, unread}
 use Rattle.sock_tcp.specs.connection.StandsFor.{StandsFor, FitsPhase}
 
 pub bounds : (p : Phase) (wanted : Bool) (una nxt highest end : ℕ) → is_sending_phase p ≡ true → una ≤ nxt → FitsPhase p wanted una nxt highest end → (1 ≤ una) × (una ≤ end)
@@ -24,6 +25,22 @@ unacknowledged_ends c r h s =
     let b = bounds (phase_of r.control.state) _ _ _ _ _ s at_most h.phase in
     let e : length c.send.items ≡ length r.written - (r.una - 1) = ap length h.send ∙ length-drop (r.una - 1) r.written in
     (omega arith, b.0)
+
+-- so it holds something where not all that was written is acknowledged
+holds_between : (count una end : ℕ) → count + una ≡ end → not (count == 0) ≡ nat_lt una end
+holds_between count una end e = grind (arith, nat_tests)
+
+pub holds_text : (c : Conn) (r : Tcb) → StandsFor c r → is_sending c.control.state ≡ true → not (length c.send.items == 0) ≡ nat_lt r.una (data_end r)
+holds_text c r h s =
+    holds_between (length c.send.items) r.una (data_end r) (unacknowledged_ends c r h (sym (ap (λ k. is_sending k.state) h.control) ∙ s)).0
+
+-- and the receive buffer where something wasn't read
+holds_some : (count : ℕ) → not (count == 0) ≡ nat_lt 0 count
+holds_some count = grind (arith, nat_tests)
+
+pub holds_unread : (c : Conn) (r : Tcb) → StandsFor c r → not (length c.receive.items == 0) ≡ nat_lt 0 (unread r)
+holds_unread c r h =
+    holds_some (length c.receive.items) ∙ ap (nat_lt 0) (ap length h.receive ∙ length-drop r.read r.received)
 
 -- what is next to send moves within the text
 pub FitsPhase_next : (p : Phase) (wanted : Bool) (una nxt highest end next : ℕ) → is_sending_phase p ≡ true → next ≤ max nxt end → FitsPhase p wanted una nxt highest end → FitsPhase p wanted una next highest end

@@ -29,7 +29,6 @@ impl Conn {
     }
 
     /// Whether text isn't acknowledged yet.
-    #[tactic(auto, using(crate::proofs::Connections::Phases::unacknowledged_ends))]
     fn has_text(&self) -> bool
         requires { is_sending self.now.control.state ≡ true }
         ensures { (r : Tcb) → StandsFor self.now r → result ≡ nat_lt r.una (data_end r) }
