@@ -6,6 +6,7 @@ pub mod Places
 pub mod Placing
 pub mod SocketActs
 pub mod Taking
+pub mod Acting
 pub mod UdpSlots
 pub mod UdpTold
 pub mod UdpCalls
