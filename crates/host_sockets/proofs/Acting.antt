@@ -22,3 +22,12 @@ acts_there now k act old new s (Some r) before' after' w v effects before left h
     let there : SocketStands (record old { conn = Some after' }) (with_tcb (act r).tcb s) =
     record { held = h.held; bound = h.bound; conn = g.conn; listener = h.listener; serial = h.serial; timers = h.timers } in
     brings s (act r) there g.segments g.timer
+
+-- what is read of it is that of the record
+pub told_there : {A : Type 0} (o : Option Tcb) (conn : Conn) (f : Option Tcb → A) (v : A) → ConnStands (Some conn) o → ((r : Tcb) → StandsFor conn r → v ≡ f (Some r)) → v ≡ f o
+told_there None conn f v stands tells = absurd stands
+told_there (Some r) conn f v stands tells = tells r stands
+
+pub told_none : {A : Type 0} (o : Option Tcb) (f : Option Tcb → A) (v : A) → ConnStands None o → v ≡ f None → v ≡ f o
+told_none None f v stands e = e
+told_none (Some r) f v stands e = absurd stands
