@@ -16,6 +16,7 @@ mod page;
 mod program_header;
 mod rights;
 mod segments;
+mod shared;
 
 pub use fault::{ElfFault, LoadError};
 pub use file::executable;
@@ -24,3 +25,4 @@ pub use loader::load;
 pub use page::{PAGE_SIZE, Page};
 pub use program_header::ProgramHeader;
 pub use rights::Rights;
+pub use shared::SharedPages;

@@ -9,6 +9,7 @@ use crate::fault::LoadError;
 use crate::image::Image;
 use crate::layout::Layout;
 use crate::segments::{check_entry, first_break};
+use crate::shared::share;
 use std::alloc::Global;
 
 /// The program image of a file, or its first fault, which is found before a page is made.
@@ -21,5 +22,6 @@ pub fn load(alloc: Global, bytes: &[u8]) -> Result<Image, LoadError>
     check_entry(header.entry, &layout.segments)?;
     let start = first_break(&layout.segments);
     let pages = make_pages(alloc, bytes, &layout.segments, &layout.pages)?;
-    Ok(Image::new(pages, header.entry, start))
+    let shared = share(alloc, pages)?;
+    Ok(Image::new(shared, header.entry, start))
 }

@@ -1,50 +1,75 @@
 -- The pages that entries and slots stand for, and what stays of them.
-use Rattle.std.proofs.Common.{◌≡◌, ℕ, zero, suc, ◌+◌, ◌-◌, ◌*◌, ◌^◌, ◌<◌, ◌≤◌, ◌≢◌, ◌⊎◌, inl, inr, List, [], ◌∷◌, ◌++◌, length, get_or, set, take, drop, map, None, vec_len, false, refl, sym, ap, subst, ◌∙◌, arith, ⊎_elim}
-use Rattle.std.proofs.lemmas.Bool.{cases_eq, cases_lt}
-use Rattle.std.proofs.lemmas.List.{length-map, length-set, length-take-le, length-drop, length-append, get_or-take, get_or-drop, get_or-map, get_or-set_same, get_or-set_other, get_or_append_left, get_or_push, get_or_past, get_or_default, set-get_or, map-set, same_lists, take_more, take_more_set, map-append, take_all, take-map, drop-take, drop-drop, take-take}
+use Rattle.std.proofs.Common.{◌≡◌, ℕ, zero, suc, ◌+◌, ◌-◌, ◌*◌, ◌^◌, ◌<◌, ◌≤◌, ◌≢◌, ◌⊎◌, inl, inr, Bool, true, false, cond, List, [], ◌∷◌, ◌++◌, flat_map, length, get_or, set, take, drop, map, None, vec_len, nat_lt, refl, sym, ap, subst, ◌∙◌, arith, ⊎_elim}
+use Rattle.std.specs.Arc.{arc_value}
+use Rattle.std.specs.List.{range_with_len}
+use Rattle.std.proofs.lemmas.Bool.{cases_eq, cases_lt, lt-ltb, le-ltb}
+use Rattle.std.proofs.lemmas.List.{length-map, length-set, length-take-le, length-drop, length-append, get_or-take, get_or-drop, get_or-map, get_or-set_same, get_or-set_other, get_or_append_left, get_or-append-add, get_or_push, get_or_past, get_or_default, set-get_or, map-set, same_lists, take_more, take_more_set, map-append, take_all, take-map, drop-take, drop-drop, take-take}
+use Rattle.std.proofs.lemmas.List.FromFn.{get_or-range_with_len, length-range_with_len}
 use Rattle.std.proofs.lemmas.Grind.{same_number_lists}
+use Rattle.std.proofs.Math.Seq.{drop-append_seam}
 use Rattle.std.proofs.lemmas.Simd.{map-map}
 use Rattle.elf_load.specs.declared.page.Page.{Page}
 use Rattle.elf_load.specs.declared.rights.Rights.{Rights}
+use Rattle.elf_load.specs.declared.shared.SharedPages.{SharedPages}
 use Rattle.elf_load.specs.Room.{page_size}
 use Rattle.guest_mem.specs.declared.entry.Entry.{Entry}
 use Rattle.guest_mem.specs.declared.pages.Pages.{Pages}
-use Rattle.guest_mem.specs.inside.PageStore.{shown}
+use Rattle.guest_mem.specs.inside.PageStore.{all_bytes, shown}
+use Rattle.guest_mem.specs.Break.{max_pages}
 use Rattle.guest_mem.specs.inside.Pages.{GuestPage, IsRewritten, Rewrites, numbers, place_of, of_image, zeros, zero_page}
-use Rattle.guest_mem.specs.inside.Slots.{AreSlots, page_of, slot_bytes, slots, taken, entry_numbers}
+use Rattle.guest_mem.specs.inside.Slots.{AreSlots, page_of, shared_bytes, slot_bytes, slots, taken, entry_numbers}
 use Rattle.guest_mem.proofs.HeapLemmas.{get_or_zeros, length_zeros}
 use Rattle.guest_mem.proofs.PageLemmas.{place_of_nowhere}
 
 -- how many slots are taken
-pub taken_le : (ss : List ℕ) → taken ss ≤ length ss
-taken_le [] = omega arith
-taken_le (zero ∷ ss) = let rest : taken ss ≤ length ss = taken_le ss in omega arith
-taken_le (suc s ∷ ss) = let rest : taken ss ≤ length ss = taken_le ss in omega arith
+one_more : (b : Bool) (n m : ℕ) → n ≤ m → cond b n (n + 1) ≤ m + 1
+one_more true n m l = omega arith
+one_more false n m l = omega arith
 
-pub taken_lt : (ss : List ℕ) (i : ℕ) → i < length ss → get_or ss i 0 ≡ 0 → taken ss < length ss
-taken_lt [] i l none = absurd (omega arith)
-taken_lt (zero ∷ ss) i l none = let rest : taken ss ≤ length ss = taken_le ss in omega arith
-taken_lt (suc s ∷ ss) zero l none = absurd (omega arith)
-taken_lt (suc s ∷ ss) (suc i) l none = let rest : taken ss < length ss = taken_lt ss i (omega arith) none in omega arith
+one_more_lt : (b : Bool) (n m : ℕ) → n < m → cond b n (n + 1) < m + 1
+one_more_lt true n m l = omega arith
+one_more_lt false n m l = omega arith
 
-pub taken_set : (ss : List ℕ) (i x : ℕ) → i < length ss → get_or ss i 0 ≡ 0 → 0 < x → taken (set ss i x) ≡ taken ss + 1
-taken_set [] i x l none more = absurd (omega arith)
-taken_set (s ∷ ss) zero zero l none more = absurd (omega arith)
-taken_set (zero ∷ ss) zero (suc x) l none more = refl
-taken_set (suc s ∷ ss) zero (suc x) l none more = absurd (omega arith)
-taken_set (zero ∷ ss) (suc i) x l none more = taken_set ss i x (omega arith) none more
-taken_set (suc s ∷ ss) (suc i) x l none more = ap (λ (n : ℕ). n + 1) (taken_set ss i x (omega arith) none more)
+one_more_next : (b : Bool) (n : ℕ) → cond b (n + 1) (n + 1 + 1) ≡ cond b n (n + 1) + 1
+one_more_next true n = refl
+one_more_next false n = refl
 
-pub taken_push : (ss : List ℕ) → taken (ss ++ 0 ∷ []) ≡ taken ss
-taken_push [] = refl
-taken_push (zero ∷ ss) = taken_push ss
-taken_push (suc s ∷ ss) = ap (λ (n : ℕ). n + 1) (taken_push ss)
+taken_shared : (first s : ℕ) (ss : List ℕ) → s < first → taken first (s ∷ ss) ≡ taken first ss
+taken_shared first s ss l = ap (λ (b : Bool). cond b (taken first ss) (taken first ss + 1)) (lt-ltb s first l)
+
+taken_own : (first s : ℕ) (ss : List ℕ) → first ≤ s → taken first (s ∷ ss) ≡ taken first ss + 1
+taken_own first s ss l = ap (λ (b : Bool). cond b (taken first ss) (taken first ss + 1)) (le-ltb s first l)
+
+pub taken_le : (first : ℕ) (ss : List ℕ) → taken first ss ≤ length ss
+taken_le first [] = omega arith
+taken_le first (s ∷ ss) = omega (arith, one_more (nat_lt s first) (taken first ss) (length ss) (taken_le first ss))
+
+pub taken_lt : (first : ℕ) (ss : List ℕ) (i : ℕ) → i < length ss → get_or ss i 0 < first → taken first ss < length ss
+taken_lt first [] i l none = absurd (omega arith)
+taken_lt first (s ∷ ss) zero l none = omega (arith, taken_shared first s ss none, taken_le first ss)
+taken_lt first (s ∷ ss) (suc i) l none = omega (arith, one_more_lt (nat_lt s first) (taken first ss) (length ss) (taken_lt first ss i (omega arith) none))
+
+pub taken_set : (first : ℕ) (ss : List ℕ) (i x : ℕ) → i < length ss → get_or ss i 0 < first → first ≤ x → taken first (set ss i x) ≡ taken first ss + 1
+taken_set first [] i x l none more = absurd (omega arith)
+taken_set first (s ∷ ss) zero x l none more = taken_own first x ss more ∙ ap (λ (n : ℕ). n + 1) (sym (taken_shared first s ss none))
+taken_set first (s ∷ ss) (suc i) x l none more =
+    ap (λ (n : ℕ). cond (nat_lt s first) n (n + 1)) (taken_set first ss i x (omega arith) none more) ∙ one_more_next (nat_lt s first) (taken first ss)
+
+-- an entry that has another shared slot
+taken_set_shared : (first : ℕ) (ss : List ℕ) (i x : ℕ) → i < length ss → get_or ss i 0 < first → x < first → taken first (set ss i x) ≡ taken first ss
+taken_set_shared first [] i x l none less = absurd (omega arith)
+taken_set_shared first (s ∷ ss) zero x l none less = taken_shared first x ss less ∙ sym (taken_shared first s ss none)
+taken_set_shared first (s ∷ ss) (suc i) x l none less = ap (λ (n : ℕ). cond (nat_lt s first) n (n + 1)) (taken_set_shared first ss i x (omega arith) none less)
+
+taken_push : (first : ℕ) (ss : List ℕ) (x : ℕ) → x < first → taken first (ss ++ x ∷ []) ≡ taken first ss
+taken_push first [] x less = taken_shared first x [] less
+taken_push first (s ∷ ss) x less = ap (λ (n : ℕ). cond (nat_lt s first) n (n + 1)) (taken_push first ss x less)
 
 -- the pages that are shown
 pub length_shown : (p : Pages) → length (shown p) ≡ p.count
 length_shown p =
     let fits : p.count ≤ length (slots p.entries.items) = p.sound.within in
-    length-take-le p.count (map (page_of p.bytes.items) p.entries.items) (omega (arith, length-map p.entries.items (page_of p.bytes.items), length-map p.entries.items (λ (e : Entry). e.slot)))
+    length-take-le p.count (map (page_of (all_bytes p)) p.entries.items) (omega (arith, length-map p.entries.items (page_of (all_bytes p)), length-map p.entries.items (λ (e : Entry). e.slot)))
 
 pub length-numbers : (p : Pages) → length (numbers (shown p)) ≡ p.count
 length-numbers p = length-map (shown p) (λ (g : GuestPage). g.number) ∙ length_shown p
@@ -58,7 +83,7 @@ numbers_below bytes (suc k) (e ∷ es) n l =
     place_of_nowhere e.number (numbers (take k (map (page_of bytes) es))) n (λ same. omega arith) (numbers_below bytes k es n l)
 
 pub shown_below : (p : Pages) (n : ℕ) → 2 ^ 20 ≤ n → place_of (numbers (shown p)) n ≡ None
-shown_below p n l = numbers_below p.bytes.items p.count p.entries.items n l
+shown_below p n l = numbers_below (all_bytes p) p.count p.entries.items n l
 
 -- a page with no bytes, for places past the end
 abbrev pub blank : GuestPage
@@ -144,7 +169,7 @@ rewritten_set old new i o bytes d is =
         (cases_eq k i)
 
 -- what stands in the slots of pages
-module _ (es : List Entry) (count : ℕ) (bytes : List ℕ) (room : ℕ) (kept : AreSlots (slots es) count bytes room) where
+module _ (es : List Entry) (count first : ℕ) (bytes : List ℕ) (room : ℕ) (kept : AreSlots (slots es) count first bytes room) where
   length_slots : length (slots es) ≡ length es
   length_slots = length-map es (λ (e : Entry). e.slot)
 
@@ -158,33 +183,24 @@ module _ (es : List Entry) (count : ℕ) (bytes : List ℕ) (room : ℕ) (kept :
       let here : get_or (take count (map (page_of bytes) es)) i d ≡ page_of bytes (get_or es i e) = get_or-take count (map (page_of bytes) es) i d l ∙ get_pages bytes es i e d within in
       ap (λ (p : GuestPage). length p.bytes) here ∙ length_slot bytes (get_or es i e).slot (fits i e within)
 
-  -- bytes that change in one slot alone
-  pub others_stay : (new : List ℕ) (i s : ℕ) → length new ≡ length bytes → i < length es → get_or (slots es) i 0 ≡ s
-      → ((k : ℕ) → (k < page_size * s) ⊎ (page_size * s + page_size ≤ k) → get_or new k 0 ≡ get_or bytes k 0) → (s ≡ 0 → (o : ℕ) → o < page_size → get_or new o 0 ≡ 0)
+  -- bytes that change in one own slot alone
+  others_stay : (new : List ℕ) (i s : ℕ) → length new ≡ length bytes → i < length es → get_or (slots es) i 0 ≡ s → first ≤ s
+      → ((k : ℕ) → (k < page_size * s) ⊎ (page_size * s + page_size ≤ k) → get_or new k 0 ≡ get_or bytes k 0)
       → (j : ℕ) (d : Entry) → j < length es → j ≢ i → page_of new (get_or es j d) ≡ page_of bytes (get_or es j d)
-  others_stay new i s long at is outside none_yet j d l apart =
-      same_page bytes new (get_or es j d) (fits j d l) (omega (arith, fits j d l, long)) (λ o low. ⊎_elim (λ (same : (get_or es j d).slot ≡ s). here same o low) (λ (ne : (get_or es j d).slot ≢ s). outside (page_size * (get_or es j d).slot + o) (sides ne o low)) (cases_eq (get_or es j d).slot s))
+  others_stay new i s long at is own outside j d l apart =
+      same_page bytes new (get_or es j d) (fits j d l) (omega (arith, fits j d l, long)) (λ o low. outside (page_size * (get_or es j d).slot + o) (sides o low))
     where
       t : ℕ
       t = (get_or es j d).slot
 
-      sides : t ≢ s → (o : ℕ) → o < page_size → (page_size * t + o < page_size * s) ⊎ (page_size * s + page_size ≤ page_size * t + o)
-      sides ne o low = ⊎_elim (λ (below : t < s). inl (omega arith)) (λ (above : s ≤ t). inr (omega arith)) (cases_lt t s)
+      ne : t ≢ s
+      ne = λ same. apart (sym (kept.own i j (omega (arith, length_slots)) (omega (arith, length_slots)) (omega (arith, is)) (is ∙ sym same ∙ sym (get_slots es j d l))))
 
-      none : t ≡ s → s ≡ 0
-      none same =
-          ⊎_elim (λ (e : s ≡ 0). e)
-          (λ (ne : s ≢ 0). absurd (apart (kept.own j i (omega (arith, length_slots)) (omega (arith, length_slots)) (omega (arith, get_slots es j d l)) (get_slots es j d l ∙ same ∙ sym is))))
-          (cases_eq s 0)
-
-      here : t ≡ s → (o : ℕ) → o < page_size → get_or new (page_size * t + o) 0 ≡ get_or bytes (page_size * t + o) 0
-      here same o low =
-          let first : s ≡ 0 = none same in
-          let at_first : page_size * t + o ≡ o = omega arith in
-          subst (λ (x : ℕ). get_or new x 0 ≡ get_or bytes x 0) (sym at_first) (none_yet first o low ∙ sym (kept.zero o low))
+      sides : (o : ℕ) → o < page_size → (page_size * t + o < page_size * s) ⊎ (page_size * s + page_size ≤ page_size * t + o)
+      sides o low = ⊎_elim (λ (below : t < s). inl (omega arith)) (λ (above : s ≤ t). inr (omega (arith, ne))) (cases_lt t s)
 
   -- a slot that is written
-  pub written : (new : List ℕ) (i s o : ℕ) (part : List ℕ) → length new ≡ length bytes → i < count → get_or (slots es) i 0 ≡ s → 0 < s → o + length part ≤ page_size
+  pub written : (new : List ℕ) (i s o : ℕ) (part : List ℕ) → length new ≡ length bytes → i < count → get_or (slots es) i 0 ≡ s → first ≤ s → o + length part ≤ page_size
       → ((k : ℕ) → k < length part → get_or new (page_size * s + o + k) 0 ≡ get_or part k 0)
       → ((k : ℕ) → (k < page_size * s + o) ⊎ (page_size * s + o + length part ≤ k) → get_or new k 0 ≡ get_or bytes k 0)
       → IsRewritten (take count (map (page_of bytes) es)) (take count (map (page_of new) es)) i o part
@@ -224,7 +240,7 @@ module _ (es : List Entry) (count : ℕ) (bytes : List ℕ) (room : ℕ) (kept :
       apart k d l ne =
           let in_es : k < length es = omega (arith, kept.within, length_slots) in
           get_or-take count (map (page_of new) es) k d l ∙ get_pages new es k any d in_es
-          ∙ others_stay new i s long within is (λ j out. kept_out j (⊎_elim (λ (h : j < page_size * s). inl (omega arith)) (λ (h : page_size * s + page_size ≤ j). inr (omega arith)) out)) (λ none. absurd (omega arith)) k any in_es ne
+          ∙ others_stay new i s long within is own (λ j out. kept_out j (⊎_elim (λ (h : j < page_size * s). inl (omega arith)) (λ (h : page_size * s + page_size ≤ j). inr (omega arith)) out)) k any in_es ne
           ∙ sym (get_or-take count (map (page_of bytes) es) k d l ∙ get_pages bytes es k any d in_es)
 
       rewrites : Rewrites (page_of bytes e) (page_of new e) o part
@@ -246,26 +262,51 @@ module _ (es : List Entry) (count : ℕ) (bytes : List ℕ) (room : ℕ) (kept :
                 (cases_lt k page_size);
           }
 
-  -- a slot that is taken
-  pub taken_same : (new : List ℕ) (i : ℕ) (e d : Entry) → i < length es → get_or (slots es) i 0 ≡ 0 → length new ≡ length bytes + page_size → e.number ≡ (get_or es i d).number → e.rights ≡ (get_or es i d).rights → page_size * e.slot ≡ length bytes
-      → ((k : ℕ) → k < length bytes → get_or new k 0 ≡ get_or bytes k 0) → ((k : ℕ) → length bytes ≤ k → k < length new → get_or new k 0 ≡ 0)
-      → map (page_of new) (set es i e) ≡ map (page_of bytes) es
-  taken_same new i e d at none long number rights slot below fresh =
-      pages_set bytes new es i e (λ j x l apart. same_page bytes new (get_or es j x) (fits j x l) (omega (arith, fits j x l, long)) (λ o low. below (page_size * (get_or es j x).slot + o) (omega (arith, fits j x l))))
+  pub written_kept : (new : List ℕ) (more : ℕ) → length new ≡ length bytes → ((o : ℕ) → o < page_size → get_or new o 0 ≡ get_or bytes o 0) → room ≤ more → AreSlots (slots es) count first new more
+  written_kept new more long same roomier =
+      record {
+        within = kept.within;
+        few = kept.few;
+        few_shared = kept.few_shared;
+        zero = λ o low. same o low ∙ kept.zero o low;
+        some = kept.some;
+        whole = long ∙ kept.whole;
+        each_in = kept.each_in;
+        own = kept.own;
+        roomy = omega (arith, kept.roomy, roomier);
+      }
+
+  -- a slot that is taken, with the bytes that the page had
+  behind : (part : List ℕ) (k : ℕ) → k < length bytes → get_or (bytes ++ part) k 0 ≡ get_or bytes k 0
+  behind part k l = get_or_append_left bytes part 0 k l
+
+  pub taken_same : (now : List ℕ) (i : ℕ) (e d : Entry) → i < length es → now ≡ bytes ++ slot_bytes bytes (get_or es i d).slot → e.number ≡ (get_or es i d).number → e.rights ≡ (get_or es i d).rights → page_size * e.slot ≡ length bytes
+      → map (page_of now) (set es i e) ≡ map (page_of bytes) es
+  taken_same now i e d at now_is number rights slot =
+      ap (λ (bs : List ℕ). map (page_of bs) (set es i e)) now_is
+      ∙ pages_set bytes new es i e (λ j x l apart. same_page bytes new (get_or es j x) (fits j x l) (omega (arith, fits j x l, long)) (λ o low. behind part (page_size * (get_or es j x).slot + o) (omega (arith, fits j x l))))
       ∙ ap (λ (p : GuestPage). set (map (page_of bytes) es) i p) (page ∙ sym (get_pages bytes es i d blank at)) ∙ set-get_or (map (page_of bytes) es) i blank
     where
       was : Entry
       was = get_or es i d
 
-      zero_was : was.slot ≡ 0
-      zero_was = sym (get_slots es i d at) ∙ none
+      part : List ℕ
+      part = slot_bytes bytes was.slot
+
+      new : List ℕ
+      new = bytes ++ part
+
+      whole_part : length part ≡ page_size
+      whole_part = length_slot bytes was.slot (fits i d at)
+
+      long : length new ≡ length bytes + page_size
+      long = omega (arith, length-append bytes part, whole_part)
 
       bytes_same : slot_bytes new e.slot ≡ slot_bytes bytes was.slot
       bytes_same =
           same_slot bytes new was.slot e.slot (fits i d at) (omega (arith, long, slot))
           (λ o low.
-          fresh (page_size * e.slot + o) (omega (arith, slot)) (omega (arith, slot, long))
-          ∙ sym (ap (λ (x : ℕ). get_or bytes x 0) (let h : page_size * was.slot + o ≡ o = omega (arith, zero_was) in h) ∙ kept.zero o low))
+          ap (λ (x : ℕ). get_or new (x + o) 0) slot ∙ get_or-append-add bytes part o 0 ∙ get_slot bytes was.slot o low)
 
       page : page_of new e ≡ page_of bytes was
       page =
@@ -273,14 +314,16 @@ module _ (es : List Entry) (count : ℕ) (bytes : List ℕ) (room : ℕ) (kept :
           ∙ ap (λ (r : Rights). record { number = was.number; rights = r; bytes = slot_bytes new e.slot }) rights
           ∙ ap (λ (x : List ℕ). record { number = was.number; rights = was.rights; bytes = x }) bytes_same
 
-  pub taken_kept : (new : List ℕ) (i : ℕ) (e : Entry) (more : ℕ) → i < length es → get_or (slots es) i 0 ≡ 0 → length new ≡ length bytes + page_size → page_size * e.slot ≡ length bytes
-      → ((k : ℕ) → k < length bytes → get_or new k 0 ≡ get_or bytes k 0) → room ≤ more → AreSlots (slots (set es i e)) count new more
-  taken_kept new i e more at none long slot below roomier =
-      subst (λ (ss : List ℕ). AreSlots ss count new more) (sym (map-set (λ (x : Entry). x.slot) es i e)) record {
+  pub taken_kept : (now part : List ℕ) (i : ℕ) (e : Entry) (more : ℕ) → i < length es → now ≡ bytes ++ part → get_or (slots es) i 0 < first → length part ≡ page_size → page_size * e.slot ≡ length bytes
+      → room ≤ more → AreSlots (slots (set es i e)) count first now more
+  taken_kept now part i e more at now_is none whole_part slot roomier =
+      subst (λ (ss : List ℕ). AreSlots ss count first now more) (sym (map-set (λ (x : Entry). x.slot) es i e)) (subst (λ (bs : List ℕ). AreSlots (set (slots es) i e.slot) count first bs more) (sym now_is) record {
         within = omega (arith, kept.within, length-set (slots es) i e.slot);
         few = omega (arith, kept.few, length-set (slots es) i e.slot);
-        zero = λ o low. below o (omega (arith, kept.whole)) ∙ kept.zero o low;
-        whole = omega (arith, long, kept.whole, counted);
+        few_shared = kept.few_shared;
+        zero = λ o low. behind part o (omega (arith, kept.whole, kept.some)) ∙ kept.zero o low;
+        some = kept.some;
+        whole = omega (arith, length-append bytes part, whole_part, kept.whole, counted);
         each_in = λ j l.
             ⊎_elim (λ (same : j ≡ i). omega (arith, counted, slot_next, here j same))
             (λ (apart : j ≢ i). omega (arith, counted, get_or-set_other (slots es) i j e.slot 0 apart, kept.each_in j (omega (arith, length-set (slots es) i e.slot))))
@@ -298,52 +341,100 @@ module _ (es : List Entry) (count : ℕ) (bytes : List ℕ) (room : ℕ) (kept :
             (cases_eq k i))
             (cases_eq j i);
         roomy = omega (arith, kept.roomy, length-set (slots es) i e.slot);
-      }
+      })
     where
-      slot_next : e.slot ≡ taken (slots es) + 1
+      slot_next : e.slot ≡ first + taken first (slots es)
       slot_next = omega (arith, slot, kept.whole)
 
-      counted : taken (set (slots es) i e.slot) ≡ taken (slots es) + 1
-      counted = taken_set (slots es) i e.slot (omega (arith, length_slots)) none (omega (arith, slot_next))
+      counted : taken first (set (slots es) i e.slot) ≡ taken first (slots es) + 1
+      counted = taken_set first (slots es) i e.slot (omega (arith, length_slots)) none (omega (arith, slot_next))
 
       here : (j : ℕ) → j ≡ i → get_or (set (slots es) i e.slot) j 0 ≡ e.slot
       here j same = subst (λ (x : ℕ). get_or (set (slots es) i e.slot) x 0 ≡ e.slot) (sym same) (get_or-set_same (slots es) i e.slot 0 (omega (arith, length_slots)))
 
-  -- a page more at a place that another had
-  pub again : (new : List ℕ) (e : Entry) (number : ℕ) (rights : Rights) → count < length es → length new ≡ length bytes → get_or (slots es) count 0 ≡ e.slot → e.number ≡ number → e.rights ≡ rights
+  -- a page of zeros
+  page_is_zero : (now : List ℕ) (e : Entry) (number : ℕ) (rights : Rights) → page_size * e.slot + page_size ≤ length now → e.number ≡ number → e.rights ≡ rights
+      → ((k : ℕ) → k < page_size → get_or now (page_size * e.slot + k) 0 ≡ 0) → page_of now e ≡ zero_page rights number
+  page_is_zero now e number rights within is_number is_rights none =
+      ap (λ (n : ℕ). record { number = n; rights = e.rights; bytes = slot_bytes now e.slot }) is_number
+      ∙ ap (λ (r : Rights). record { number = number; rights = r; bytes = slot_bytes now e.slot }) is_rights
+      ∙ ap (λ (x : List ℕ). record { number = number; rights = rights; bytes = x }) (zero_slot now e.slot within none)
+
+  -- a page with the slot of zeros
+  unwritten : (e : Entry) (number : ℕ) (rights : Rights) → e.slot ≡ 0 → e.number ≡ number → e.rights ≡ rights → page_of bytes e ≡ zero_page rights number
+  unwritten e number rights slot is_number is_rights =
+      page_is_zero bytes e number rights (omega (arith, slot, kept.whole, kept.some)) is_number is_rights
+      (λ o low. ap (λ (x : ℕ). get_or bytes x 0) (let h : page_size * e.slot + o ≡ o = omega (arith, slot) in h) ∙ kept.zero o low)
+
+  -- a page more at a place that another had, with that one's own slot
+  pub again : (new : List ℕ) (e : Entry) (number : ℕ) (rights : Rights) → count < length es → length new ≡ length bytes → get_or (slots es) count 0 ≡ e.slot → first ≤ e.slot → e.number ≡ number → e.rights ≡ rights
       → ((k : ℕ) → (k < page_size * e.slot) ⊎ (page_size * e.slot + page_size ≤ k) → get_or new k 0 ≡ get_or bytes k 0) → ((k : ℕ) → k < page_size → get_or new (page_size * e.slot + k) 0 ≡ 0)
       → take (count + 1) (map (page_of new) (set es count e)) ≡ take count (map (page_of bytes) es) ++ zero_page rights number ∷ []
-  again new e number rights at long is is_number is_rights outside none =
-      ap (take (count + 1))
-      (pages_set bytes new es count e (others_stay new count e.slot long at is outside (λ first o low. ap (λ (x : ℕ). get_or new x 0) (let h : o ≡ page_size * e.slot + o = omega (arith, first) in h) ∙ none o low)))
+  again new e number rights at long is own is_number is_rights outside none =
+      ap (take (count + 1)) (pages_set bytes new es count e (others_stay new count e.slot long at is own outside))
       ∙ take_more_set (map (page_of bytes) es) count (page_of new e) (omega (arith, length-map es (page_of bytes)))
-      ∙ ap (λ (p : GuestPage). take count (map (page_of bytes) es) ++ p ∷ []) page
+      ∙ ap (λ (p : GuestPage). take count (map (page_of bytes) es) ++ p ∷ []) (page_is_zero new e number rights (omega (arith, long, fits count any at, get_slots es count any at, is)) is_number is_rights none)
     where
       any : Entry
       any = an_entry es (omega arith)
 
-      page : page_of new e ≡ zero_page rights number
-      page =
-          ap (λ (n : ℕ). record { number = n; rights = e.rights; bytes = slot_bytes new e.slot }) is_number
-          ∙ ap (λ (r : Rights). record { number = number; rights = r; bytes = slot_bytes new e.slot }) is_rights
-          ∙ ap (λ (x : List ℕ). record { number = number; rights = rights; bytes = x }) (zero_slot new e.slot (omega (arith, long, fits count any at, get_slots es count any at, is)) none)
-
-  pub again_kept : (new : List ℕ) (e : Entry) (more : ℕ) → room ≤ more → count < length es → length new ≡ length bytes → get_or (slots es) count 0 ≡ e.slot
-      → ((k : ℕ) → (k < page_size * e.slot) ⊎ (page_size * e.slot + page_size ≤ k) → get_or new k 0 ≡ get_or bytes k 0) → ((k : ℕ) → k < page_size → get_or new (page_size * e.slot + k) 0 ≡ 0)
-      → AreSlots (slots (set es count e)) (count + 1) new more
-  again_kept new e more roomier at long is outside none =
-      subst (λ (ss : List ℕ). AreSlots ss (count + 1) new more) (sym (map-set (λ (x : Entry). x.slot) es count e ∙ ap (set (slots es) count) (sym is) ∙ set-get_or (slots es) count 0)) record {
+  pub again_kept : (new : List ℕ) (e : Entry) (more : ℕ) → room ≤ more → count < length es → length new ≡ length bytes → get_or (slots es) count 0 ≡ e.slot → first ≤ e.slot
+      → ((k : ℕ) → (k < page_size * e.slot) ⊎ (page_size * e.slot + page_size ≤ k) → get_or new k 0 ≡ get_or bytes k 0)
+      → AreSlots (slots (set es count e)) (count + 1) first new more
+  again_kept new e more roomier at long is own outside =
+      subst (λ (ss : List ℕ). AreSlots ss (count + 1) first new more) (sym (map-set (λ (x : Entry). x.slot) es count e ∙ ap (set (slots es) count) (sym is) ∙ set-get_or (slots es) count 0)) record {
         within = omega (arith, length_slots);
         few = kept.few;
-        zero = λ o low.
-            ⊎_elim (λ (first : e.slot ≡ 0). ap (λ (x : ℕ). get_or new x 0) (let h : o ≡ page_size * e.slot + o = omega (arith, first) in h) ∙ none o low)
-            (λ (ne : e.slot ≢ 0). outside o (inl (omega arith)) ∙ kept.zero o low)
-            (cases_eq e.slot 0);
+        few_shared = kept.few_shared;
+        zero = λ o low. outside o (inl (omega (arith, own, kept.some))) ∙ kept.zero o low;
+        some = kept.some;
         whole = long ∙ kept.whole;
         each_in = kept.each_in;
         own = kept.own;
         roomy = omega (arith, kept.roomy, roomier);
       }
+
+  -- a page more at a place that another had, which has no slot of its own
+  pub again_shared : (e : Entry) (number : ℕ) (rights : Rights) → count < length es → e.slot ≡ 0 → e.number ≡ number → e.rights ≡ rights
+      → take (count + 1) (map (page_of bytes) (set es count e)) ≡ take count (map (page_of bytes) es) ++ zero_page rights number ∷ []
+  again_shared e number rights at slot is_number is_rights =
+      ap (take (count + 1)) (pages_set bytes bytes es count e (λ j d l apart. refl))
+      ∙ take_more_set (map (page_of bytes) es) count (page_of bytes e) (omega (arith, length-map es (page_of bytes)))
+      ∙ ap (λ (p : GuestPage). take count (map (page_of bytes) es) ++ p ∷ []) (unwritten e number rights slot is_number is_rights)
+
+  pub again_shared_kept : (e : Entry) → count < length es → get_or (slots es) count 0 < first → e.slot ≡ 0 → AreSlots (slots (set es count e)) (count + 1) first bytes room
+  again_shared_kept e at none slot =
+      subst (λ (ss : List ℕ). AreSlots ss (count + 1) first bytes room) (sym (map-set (λ (x : Entry). x.slot) es count e ∙ ap (set (slots es) count) slot)) record {
+        within = omega (arith, length_slots, long);
+        few = omega (arith, kept.few, long);
+        few_shared = kept.few_shared;
+        zero = kept.zero;
+        some = kept.some;
+        whole = kept.whole ∙ ap (λ (n : ℕ). page_size * (first + n)) (sym same_taken);
+        each_in = λ i l.
+            ⊎_elim (λ (same : i ≡ count). omega (arith, kept.some, here i same))
+            (λ (apart : i ≢ count). omega (arith, same_taken, get_or-set_other (slots es) count i 0 0 apart, kept.each_in i (omega (arith, long))))
+            (cases_eq i count);
+        own = λ i j in_i in_j some same.
+            ⊎_elim (λ (i_is : i ≡ count). absurd (omega (arith, some, kept.some, here i i_is)))
+            (λ (i_apart : i ≢ count).
+            ⊎_elim (λ (j_is : j ≡ count). absurd (omega (arith, some, same, kept.some, here j j_is)))
+            (λ (j_apart : j ≢ count).
+            kept.own i j (omega (arith, long)) (omega (arith, long)) (omega (arith, some, get_or-set_other (slots es) count i 0 0 i_apart))
+            (sym (get_or-set_other (slots es) count i 0 0 i_apart) ∙ same ∙ get_or-set_other (slots es) count j 0 0 j_apart))
+            (cases_eq j count))
+            (cases_eq i count);
+        roomy = omega (arith, kept.roomy, long);
+      }
+    where
+      long : length (set (slots es) count 0) ≡ length (slots es)
+      long = length-set (slots es) count 0
+
+      same_taken : taken first (set (slots es) count 0) ≡ taken first (slots es)
+      same_taken = taken_set_shared first (slots es) count 0 (omega (arith, length_slots)) none kept.some
+
+      here : (j : ℕ) → j ≡ count → get_or (set (slots es) count 0) j 0 ≡ 0
+      here j same = subst (λ (x : ℕ). get_or (set (slots es) count 0) x 0 ≡ 0) (sym same) (get_or-set_same (slots es) count 0 0 (omega (arith, length_slots)))
 
   -- a page more behind all entries
   pub pushed : (e : Entry) (number : ℕ) (rights : Rights) → count ≡ length es → e.slot ≡ 0 → e.number ≡ number → e.rights ≡ rights
@@ -351,37 +442,30 @@ module _ (es : List Entry) (count : ℕ) (bytes : List ℕ) (room : ℕ) (kept :
   pushed e number rights all slot is_number is_rights =
       ap (take (count + 1)) (map-append (page_of bytes) es (e ∷ []))
       ∙ take_all (count + 1) (map (page_of bytes) es ++ page_of bytes e ∷ []) (omega (arith, all, length-append (map (page_of bytes) es) (page_of bytes e ∷ []), length-map es (page_of bytes)))
-      ∙ ap (λ (p : GuestPage). map (page_of bytes) es ++ p ∷ []) page
+      ∙ ap (λ (p : GuestPage). map (page_of bytes) es ++ p ∷ []) (unwritten e number rights slot is_number is_rights)
       ∙ ap (λ (ps : List GuestPage). ps ++ zero_page rights number ∷ []) (sym (take_all count (map (page_of bytes) es) (omega (arith, all, length-map es (page_of bytes)))))
-    where
-      none : (o : ℕ) → o < page_size → get_or bytes (page_size * e.slot + o) 0 ≡ 0
-      none o low = ap (λ (x : ℕ). get_or bytes x 0) (let h : page_size * e.slot + o ≡ o = omega (arith, slot) in h) ∙ kept.zero o low
 
-      page : page_of bytes e ≡ zero_page rights number
-      page =
-          ap (λ (n : ℕ). record { number = n; rights = e.rights; bytes = slot_bytes bytes e.slot }) is_number
-          ∙ ap (λ (r : Rights). record { number = number; rights = r; bytes = slot_bytes bytes e.slot }) is_rights
-          ∙ ap (λ (x : List ℕ). record { number = number; rights = rights; bytes = x }) (zero_slot bytes e.slot (omega (arith, slot, kept.whole)) none)
-
-  pub pushed_kept : (e : Entry) → count ≡ length es → count < page_size → e.slot ≡ 0 → page_size * (count + 2) ≤ room → AreSlots (slots (es ++ e ∷ [])) (count + 1) bytes room
+  pub pushed_kept : (e : Entry) → count ≡ length es → count < max_pages → e.slot ≡ 0 → page_size * (count + 1) ≤ room → AreSlots (slots (es ++ e ∷ [])) (count + 1) first bytes room
   pushed_kept e all low slot roomier =
-      subst (λ (ss : List ℕ). AreSlots ss (count + 1) bytes room) (sym (map-append (λ (x : Entry). x.slot) es (e ∷ []) ∙ ap (λ (s : ℕ). slots es ++ s ∷ []) slot)) record {
+      subst (λ (ss : List ℕ). AreSlots ss (count + 1) first bytes room) (sym (map-append (λ (x : Entry). x.slot) es (e ∷ []) ∙ ap (λ (s : ℕ). slots es ++ s ∷ []) slot)) record {
         within = omega (arith, length_slots, longer);
         few = omega (arith, length_slots, longer);
+        few_shared = kept.few_shared;
         zero = kept.zero;
-        whole = kept.whole ∙ ap (λ (n : ℕ). page_size * (n + 1)) (sym (taken_push (slots es)));
+        some = kept.some;
+        whole = kept.whole ∙ ap (λ (n : ℕ). page_size * (first + n)) (sym same_taken);
         each_in = λ i l.
-            ⊎_elim (λ (early : i < length (slots es)). omega (arith, taken_push (slots es), get_or_append_left (slots es) (0 ∷ []) 0 i early, kept.each_in i early))
-            (λ (last : length (slots es) ≤ i). omega (arith, get_or_push (slots es) 0 0 i (omega (arith, longer))))
+            ⊎_elim (λ (early : i < length (slots es)). omega (arith, same_taken, get_or_append_left (slots es) (0 ∷ []) 0 i early, kept.each_in i early))
+            (λ (last : length (slots es) ≤ i). omega (arith, kept.some, get_or_push (slots es) 0 0 i (omega (arith, longer))))
             (cases_lt i (length (slots es)));
         own = λ i j in_i in_j some same.
             ⊎_elim (λ (early : i < length (slots es)).
             ⊎_elim (λ (early_j : j < length (slots es)).
             kept.own i j early early_j (omega (arith, some, get_or_append_left (slots es) (0 ∷ []) 0 i early))
             (sym (get_or_append_left (slots es) (0 ∷ []) 0 i early) ∙ same ∙ get_or_append_left (slots es) (0 ∷ []) 0 j early_j))
-            (λ (last : length (slots es) ≤ j). absurd (omega (arith, some, same, get_or_push (slots es) 0 0 j (omega (arith, longer)))))
+            (λ (last : length (slots es) ≤ j). absurd (omega (arith, some, same, kept.some, get_or_push (slots es) 0 0 j (omega (arith, longer)))))
             (cases_lt j (length (slots es))))
-            (λ (last : length (slots es) ≤ i). absurd (omega (arith, some, get_or_push (slots es) 0 0 i (omega (arith, longer)))))
+            (λ (last : length (slots es) ≤ i). absurd (omega (arith, some, kept.some, get_or_push (slots es) 0 0 i (omega (arith, longer)))))
             (cases_lt i (length (slots es)));
         roomy = omega (arith, length_slots, longer);
       }
@@ -389,65 +473,170 @@ module _ (es : List Entry) (count : ℕ) (bytes : List ℕ) (room : ℕ) (kept :
       longer : length (slots es ++ 0 ∷ []) ≡ length (slots es) + 1
       longer = length-append (slots es) (0 ∷ [])
 
+      same_taken : taken first (slots es ++ 0 ∷ []) ≡ taken first (slots es)
+      same_taken = taken_push first (slots es) 0 kept.some
+
 pub length_shown_page : (p : Pages) (i : ℕ) (d : GuestPage) → i < p.count → length (get_or (shown p) i d).bytes ≡ page_size
-length_shown_page p i d l = length_page_at p.entries.items p.count p.bytes.items _ p.sound i d l
+length_shown_page p i d l = length_page_at p.entries.items p.count p.first_own (all_bytes p) _ p.sound i d l
 
 pub within_entries : (p : Pages) (i : ℕ) → i < p.count → i < length p.entries.items
 within_entries p i l = omega (arith, l, p.sound.within, length-map p.entries.items (λ (e : Entry). e.slot))
 
-pub get_shown : (p : Pages) (i : ℕ) (d : GuestPage) (e : Entry) → i < p.count → get_or (shown p) i d ≡ page_of p.bytes.items (get_or p.entries.items i e)
-get_shown p i d e l = get_or-take p.count (map (page_of p.bytes.items) p.entries.items) i d l ∙ get_pages p.bytes.items p.entries.items i e d (within_entries p i l)
-
-pub fits_shown : (p : Pages) (i : ℕ) (e : Entry) → i < length p.entries.items → page_size * (get_or p.entries.items i e).slot + page_size ≤ length p.bytes.items
-fits_shown p i e l = fits p.entries.items p.count p.bytes.items _ p.sound i e l
+pub get_shown : (p : Pages) (i : ℕ) (d : GuestPage) (e : Entry) → i < p.count → get_or (shown p) i d ≡ page_of (all_bytes p) (get_or p.entries.items i e)
+get_shown p i d e l = get_or-take p.count (map (page_of (all_bytes p)) p.entries.items) i d l ∙ get_pages (all_bytes p) p.entries.items i e d (within_entries p i l)
 
 pub slot_set : (es : List Entry) (i : ℕ) (e : Entry) → i < length es → get_or (slots (set es i e)) i 0 ≡ e.slot
 slot_set es i e l = ap (λ (ss : List ℕ). get_or ss i 0) (map-set (λ (x : Entry). x.slot) es i e) ∙ get_or-set_same (slots es) i e.slot 0 (omega (arith, l, length-map es (λ (x : Entry). x.slot)))
 
 pub numbers_entries : (p : Pages) → numbers (shown p) ≡ entry_numbers (take p.count p.entries.items)
-numbers_entries p = ap numbers (take-map (page_of p.bytes.items) p.count p.entries.items) ∙ map-map (λ (g : GuestPage). g.number) (page_of p.bytes.items) (take p.count p.entries.items)
+numbers_entries p = ap numbers (take-map (page_of (all_bytes p)) p.count p.entries.items) ∙ map-map (λ (g : GuestPage). g.number) (page_of (all_bytes p)) (take p.count p.entries.items)
 
--- a copy of an image's page
-pub image_zeros : (page : Page) → ((o : ℕ) → get_or page.bytes.items o 0 ≡ 0) → zero_page page.rights page.number ≡ of_image page
-image_zeros page none =
-    let whole : length page.bytes.items ≡ page_size = (let long : vec_len page.bytes ≡ page_size = page.is_whole in omega (arith, long, page.bytes.ok.0)) in
-    ap (λ (x : List ℕ). record { number = page.number; rights = page.rights; bytes = x })
-    (same_number_lists (zeros page_size) page.bytes.items (length_zeros page_size ∙ sym whole) (λ o l. get_or_zeros page_size o ∙ sym (none o)))
+-- the shared slots: zeros, and the pages of the image
+whole_page : (p : Page) → length p.bytes.items ≡ page_size
+whole_page p = let long : vec_len p.bytes ≡ page_size = p.is_whole in omega (arith, long, p.bytes.ok.0)
 
-set_last : (ps : List GuestPage) (x y : GuestPage) → set (ps ++ x ∷ []) (length ps) y ≡ ps ++ y ∷ []
-set_last [] x y = refl
-set_last (p ∷ ps) x y = ap (λ (qs : List GuestPage). p ∷ qs) (set_last ps x y)
+whole_zeros : (s : SharedPages) → length s.zeros.items ≡ page_size
+whole_zeros s = let long : vec_len s.zeros ≡ page_size = s.is_whole in omega (arith, long, s.zeros.ok.0)
 
-pub image_written : (ps now : List GuestPage) (page : Page) → IsRewritten (ps ++ zero_page page.rights page.number ∷ []) now (length ps) 0 page.bytes.items → now ≡ ps ++ of_image page ∷ []
-image_written ps now page is =
-    rewritten_set (ps ++ zero ∷ []) now (length ps) 0 page.bytes.items blank is ∙ set_last ps zero made ∙ ap (λ (g : GuestPage). ps ++ g ∷ []) made_is
+length_pages : (ps : List Page) → length (flat_map (λ p. p.bytes.items) ps) ≡ page_size * length ps
+length_pages [] = refl
+length_pages (p ∷ ps) = omega (arith, length-append p.bytes.items (flat_map (λ (q : Page). q.bytes.items) ps), whole_page p, length_pages ps)
+
+pub length_shared : (s : SharedPages) → length (shared_bytes s) ≡ page_size * (length s.pages.items + 1)
+unfolding shared_bytes
+length_shared s = omega (arith, length-append s.zeros.items (flat_map (λ (q : Page). q.bytes.items) s.pages.items), whole_zeros s, length_pages s.pages.items)
+
+get_pages_byte : (ps : List Page) (i o : ℕ) (d : Page) → i < length ps → o < page_size → get_or (flat_map (λ p. p.bytes.items) ps) (page_size * i + o) 0 ≡ get_or (get_or ps i d).bytes.items o 0
+get_pages_byte [] i o d l low = absurd (omega arith)
+get_pages_byte (p ∷ ps) zero o d l low =
+    ap (λ (x : ℕ). get_or (flat_map (λ (q : Page). q.bytes.items) (p ∷ ps)) x 0) (let e : page_size * 0 + o ≡ o = omega arith in e)
+    ∙ get_or_append_left p.bytes.items (flat_map (λ (q : Page). q.bytes.items) ps) 0 o (omega (arith, whole_page p))
+get_pages_byte (p ∷ ps) (suc i) o d l low =
+    ap (λ (x : ℕ). get_or (flat_map (λ (q : Page). q.bytes.items) (p ∷ ps)) x 0) (let e : page_size * suc i + o ≡ length p.bytes.items + (page_size * i + o) = omega (arith, whole_page p) in e)
+    ∙ get_or-append-add p.bytes.items (flat_map (λ (q : Page). q.bytes.items) ps) (page_size * i + o) 0 ∙ get_pages_byte ps i o d (omega arith) low
+
+pub shared_zero : (s : SharedPages) (o : ℕ) → o < page_size → get_or (shared_bytes s) o 0 ≡ 0
+unfolding shared_bytes
+shared_zero s o low = get_or_append_left s.zeros.items (flat_map (λ (q : Page). q.bytes.items) s.pages.items) 0 o (omega (arith, whole_zeros s)) ∙ s.are_zeros o low
+
+-- the bytes of the slot of zeros
+pub slot_of_zeros : (s : SharedPages) → slot_bytes (shared_bytes s) 0 ≡ s.zeros.items
+slot_of_zeros s =
+    zero_slot (shared_bytes s) 0 (omega (arith, length_shared s)) (λ o low. ap (λ (x : ℕ). get_or (shared_bytes s) x 0) (let e : page_size * 0 + o ≡ o = omega arith in e) ∙ shared_zero s o low)
+    ∙ same_number_lists (zeros page_size) s.zeros.items (length_zeros page_size ∙ sym (whole_zeros s)) (λ o l. get_or_zeros page_size o ∙ sym (s.are_zeros o (omega (arith, l, length_zeros page_size))))
+
+-- the bytes of a page's slot
+pub slot_of_page : (s : SharedPages) (i : ℕ) (d : Page) → i < length s.pages.items → slot_bytes (shared_bytes s) (i + 1) ≡ (get_or s.pages.items i d).bytes.items
+unfolding shared_bytes
+slot_of_page s i d l =
+    same_number_lists (slot_bytes (shared_bytes s) (i + 1)) (get_or s.pages.items i d).bytes.items
+    (length_slot (shared_bytes s) (i + 1) within ∙ sym (whole_page (get_or s.pages.items i d)))
+    (λ o short. let low : o < page_size = omega (arith, short, length_slot (shared_bytes s) (i + 1) within) in get_slot (shared_bytes s) (i + 1) o low ∙ byte o low)
   where
-    zero : GuestPage
-    zero = zero_page page.rights page.number
+    within : page_size * (i + 1) + page_size ≤ length (shared_bytes s)
+    within = omega (arith, length_shared s)
 
-    made : GuestPage
-    made = get_or now (length ps) blank
+    byte : (o : ℕ) → o < page_size → get_or (shared_bytes s) (page_size * (i + 1) + o) 0 ≡ get_or (get_or s.pages.items i d).bytes.items o 0
+    byte o low =
+        ap (λ (x : ℕ). get_or (shared_bytes s) x 0) (let e : page_size * (i + 1) + o ≡ length s.zeros.items + (page_size * i + o) = omega (arith, whole_zeros s) in e)
+        ∙ get_or-append-add s.zeros.items (flat_map (λ (q : Page). q.bytes.items) s.pages.items) (page_size * i + o) 0 ∙ get_pages_byte s.pages.items i o d l low
 
-    was : get_or (ps ++ zero ∷ []) (length ps) blank ≡ zero
-    was = get_or_push ps zero blank (length ps) refl
+-- a shared slot has the same bytes whatever the own ones have, and an own slot's stand behind the shared ones
+pub shared_part : (front own : List ℕ) (s : ℕ) → page_size * s + page_size ≤ length front → slot_bytes (front ++ own) s ≡ slot_bytes front s
+shared_part front own s within =
+    same_slot front (front ++ own) s s within (omega (arith, within, length-append front own)) (λ o low. get_or_append_left front own 0 (page_size * s + o) (omega (arith, within)))
 
-    writes : Rewrites zero made 0 page.bytes.items
-    writes = subst (λ (g : GuestPage). Rewrites g made 0 page.bytes.items) was (is.here blank)
+-- entries that have shared slots alone
+taken_range : (first a n : ℕ) → a + n ≤ first → taken first (range_with_len a n) ≡ 0
+taken_range first a zero l = refl
+taken_range first a (suc n) l = taken_shared first a (range_with_len (a + 1) n) (omega arith) ∙ taken_range first (a + 1) n (omega arith)
 
-    whole : length page.bytes.items ≡ page_size
-    whole = let long : vec_len page.bytes ≡ page_size = page.is_whole in omega (arith, long, page.bytes.ok.0)
+pub begun : (s : SharedPages) (ss own : List ℕ) (count room : ℕ) → ss ≡ range_with_len 1 count → count ≡ length s.pages.items → own ≡ [] → count + 1 ≤ max_pages → page_size * count ≤ room
+    → AreSlots ss count (count + 1) (shared_bytes s ++ own) room
+begun s ss own count room listed all none low roomy =
+    subst (λ (xs : List ℕ). AreSlots xs count (count + 1) (shared_bytes s ++ own) room) (sym listed) record {
+      within = omega (arith, long);
+      few = omega (arith, long);
+      few_shared = low;
+      zero = λ o small. get_or_append_left (shared_bytes s) own 0 o (omega (arith, length_shared s)) ∙ shared_zero s o small;
+      some = omega arith;
+      whole = omega (arith, length-append (shared_bytes s) own, ap (λ (xs : List ℕ). length xs) none, length_shared s, taken_range (count + 1) 1 count (omega arith));
+      each_in = λ i l. omega (arith, get_or-range_with_len 1 count i 0 (omega (arith, long)), long);
+      own = λ i j in_i in_j some same. absurd (omega (arith, some, get_or-range_with_len 1 count i 0 (omega (arith, long)), long));
+      roomy = omega (arith, long);
+    }
+  where
+    long : length (range_with_len 1 count) ≡ count
+    long = length-range_with_len 1 count
 
-    bytes_are : made.bytes ≡ page.bytes.items
-    bytes_are =
-        same_number_lists made.bytes page.bytes.items (writes.long ∙ length_zeros page_size ∙ sym whole)
-        (λ o l. ap (λ (x : ℕ). get_or made.bytes x 0) (let e : o ≡ 0 + o = omega arith in e) ∙ writes.inside o (omega (arith, l, writes.long, length_zeros page_size, whole)))
-
-    made_is : made ≡ of_image page
-    made_is =
-        ap (λ (n : ℕ). record { number = n; rights = made.rights; bytes = made.bytes }) writes.number
-        ∙ ap (λ (r : Rights). record { number = page.number; rights = r; bytes = made.bytes }) writes.rights
-        ∙ ap (λ (x : List ℕ). record { number = page.number; rights = page.rights; bytes = x }) bytes_are
-
+-- one page of an image more
 pub images_more : (ps : List Page) (i : ℕ) (p : Page) → i < length ps → p ≡ get_or ps i p → map of_image (take (i + 1) ps) ≡ map of_image (take i ps) ++ of_image p ∷ []
 images_more ps i p l is =
     ap (map of_image) (take_more ps i p l) ∙ map-append of_image (take i ps) (get_or ps i p ∷ []) ∙ ap (λ (q : Page). map of_image (take i ps) ++ of_image q ∷ []) (sym is)
+
+-- where shared and own bytes stand
+pub own_at : (front own : List ℕ) (j k : ℕ) → k ≡ length front + j → get_or (front ++ own) k 0 ≡ get_or own j 0
+own_at front own j k at = ap (λ (x : ℕ). get_or (front ++ own) x 0) at ∙ get_or-append-add front own j 0
+
+pub drop_own : (front own : List ℕ) (j k : ℕ) → k ≡ length front + j → drop k (front ++ own) ≡ drop j own
+drop_own front own j k at =
+    ap (λ (x : ℕ). drop x (front ++ own)) at ∙ sym (drop-drop j (length front) (front ++ own)) ∙ ap (drop j) (drop-append_seam front own)
+
+pub own_changed : (front own new : List ℕ) (k : ℕ) → ((j : ℕ) → k ≡ length front + j → get_or new j 0 ≡ get_or own j 0) → get_or (front ++ new) k 0 ≡ get_or (front ++ own) k 0
+own_changed front own new k same =
+    ⊎_elim (λ (l : k < length front). get_or_append_left front new 0 k l ∙ sym (get_or_append_left front own 0 k l))
+    (λ (above : length front ≤ k).
+    let at : k ≡ length front + (k - length front) = omega arith in
+    own_at front new (k - length front) k at ∙ same (k - length front) at ∙ sym (own_at front own (k - length front) k at))
+    (cases_lt k (length front))
+
+pub length_front : (p : Pages) → length (shared_bytes (arc_value p.shared)) ≡ page_size * p.first_own
+length_front p = omega (arith, length_shared (arc_value p.shared), p.shares, (arc_value p.shared).pages.ok.0)
+
+pub length_own : (p : Pages) → length p.bytes.items ≡ page_size * taken p.first_own (slots p.entries.items)
+length_own p = omega (arith, length-append (shared_bytes (arc_value p.shared)) p.bytes.items, length_front p, p.sound.whole)
+
+-- an entry more for a page of the image
+pub listed : (s : SharedPages) (es new : List Entry) (e : Entry) (i place : ℕ) (p : Page) → new ≡ es ++ e ∷ [] → i < length s.pages.items → p ≡ get_or s.pages.items i p
+    → e.number ≡ p.number → e.rights ≡ p.rights → e.slot ≡ place + 1 → place ≡ i
+    → map (page_of (shared_bytes s)) es ≡ map of_image (take i s.pages.items) → map (page_of (shared_bytes s)) new ≡ map of_image (take (i + 1) s.pages.items)
+listed s es new e i place p more l is number rights slot at before =
+    ap (map (page_of (shared_bytes s))) more ∙ map-append (page_of (shared_bytes s)) es (e ∷ []) ∙ ap (λ (ps : List GuestPage). ps ++ page_of (shared_bytes s) e ∷ []) before
+    ∙ ap (λ (g : GuestPage). map of_image (take i s.pages.items) ++ g ∷ []) page ∙ sym (images_more s.pages.items i p l is)
+  where
+    bytes_are : slot_bytes (shared_bytes s) e.slot ≡ p.bytes.items
+    bytes_are = ap (slot_bytes (shared_bytes s)) (slot ∙ ap (λ (n : ℕ). n + 1) at) ∙ slot_of_page s i p l ∙ ap (λ (q : Page). q.bytes.items) (sym is)
+
+    page : page_of (shared_bytes s) e ≡ of_image p
+    page =
+        ap (λ (n : ℕ). record { number = n; rights = e.rights; bytes = slot_bytes (shared_bytes s) e.slot }) number
+        ∙ ap (λ (r : Rights). record { number = p.number; rights = r; bytes = slot_bytes (shared_bytes s) e.slot }) rights
+        ∙ ap (λ (x : List ℕ). record { number = p.number; rights = p.rights; bytes = x }) bytes_are
+
+range_more : (a n : ℕ) → range_with_len a (suc n) ≡ range_with_len a n ++ (a + n) ∷ []
+range_more a zero = ap (λ (x : ℕ). x ∷ []) (let e : a ≡ a + 0 = omega arith in e)
+range_more a (suc n) = ap (λ (xs : List ℕ). a ∷ xs) (range_more (a + 1) n ∙ ap (λ (x : ℕ). range_with_len (a + 1) n ++ x ∷ []) (let e : a + 1 + n ≡ a + suc n = omega arith in e))
+
+pub listed_slots : (es new : List Entry) (e : Entry) (i place : ℕ) → new ≡ es ++ e ∷ [] → e.slot ≡ place + 1 → place ≡ i → slots es ≡ range_with_len 1 i → slots new ≡ range_with_len 1 (i + 1)
+listed_slots es new e i place more slot at before =
+    ap slots more ∙ map-append (λ (x : Entry). x.slot) es (e ∷ []) ∙ ap (λ (ss : List ℕ). ss ++ e.slot ∷ []) before
+    ∙ ap (λ (x : ℕ). range_with_len 1 i ++ x ∷ []) (let h : e.slot ≡ 1 + i = omega (arith, slot, at) in h) ∙ sym (range_more 1 i) ∙ ap (range_with_len 1) (let h : suc i ≡ i + 1 = omega arith in h)
+
+-- where the bytes of an own slot stand
+pub own_end : (p : Pages) (i s : ℕ) → i < length p.entries.items → get_or (slots p.entries.items) i 0 ≡ s → p.first_own ≤ s → (s - p.first_own) * page_size + page_size ≤ length p.bytes.items
+own_end p i s l is own = omega (arith, length_own p, own, is, p.sound.each_in i (omega (arith, l, length-map p.entries.items (λ (e : Entry). e.slot))))
+
+pub own_low : (p : Pages) (i s : ℕ) → i < length p.entries.items → get_or (slots p.entries.items) i 0 ≡ s → s < 2 * max_pages
+own_low p i s l is = omega (arith, is, p.sound.each_in i (omega (arith, l, length-map p.entries.items (λ (e : Entry). e.slot))), taken_le p.first_own (slots p.entries.items), p.sound.few, p.sound.few_shared)
+
+pub own_place : (p : Pages) (s o : ℕ) → p.first_own ≤ s → page_size * s + o ≡ length (shared_bytes (arc_value p.shared)) + ((s - p.first_own) * page_size + o)
+own_place p s o own = omega (arith, length_front p, own)
+
+-- the bytes of all slots where own ones were changed
+pub long_changed : (p : Pages) (new : List ℕ) → length new ≡ length p.bytes.items → length (shared_bytes (arc_value p.shared) ++ new) ≡ length (all_bytes p)
+long_changed p new long = omega (arith, long, length-append (shared_bytes (arc_value p.shared)) new, length-append (shared_bytes (arc_value p.shared)) p.bytes.items)
+
+pub first_changed : (p : Pages) (new : List ℕ) (o : ℕ) → o < page_size → get_or (shared_bytes (arc_value p.shared) ++ new) o 0 ≡ get_or (all_bytes p) o 0
+first_changed p new o low =
+    let front : o < length (shared_bytes (arc_value p.shared)) = omega (arith, low, length_front p, p.sound.some) in
+    get_or_append_left (shared_bytes (arc_value p.shared)) new 0 o front ∙ sym (get_or_append_left (shared_bytes (arc_value p.shared)) p.bytes.items 0 o front)

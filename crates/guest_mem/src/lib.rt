@@ -3,10 +3,10 @@
 
 mod bad;
 mod code;
-mod copies;
 mod entry;
 mod hint;
 mod index;
+mod listing;
 mod mem;
 mod pages;
 mod right;

@@ -5,8 +5,8 @@ ghost use Rattle.guest_mem.specs.Memory.{IsPage, read, load, write, store};
 ghost use Rattle.guest_mem.specs.Break.{grown, pages_to};
 ghost use Rattle.guest_mem.specs.Opening.{opening};
 
-use crate::copies::copies;
 use crate::hint::FetchHint;
+use crate::pages::Pages;
 use crate::table::PageTable;
 use crate::{Bad, Right};
 use elf_load::Image;
@@ -59,7 +59,8 @@ impl Mem {
     pub fn from_image(alloc: Global, image: &Image) -> Result<Mem, NoMemory>
         ensures { IfOk result (λ m. m ≡ opening image.now) }
     {
-        let mut pages = copies(alloc, image.pages(), STACK_PAGES as usize)?;
+        let shared = image.shared()?;
+        let mut pages = Pages::of_image(alloc, shared, STACK_PAGES as usize)?;
         pages.push_zeros(STACK_FIRST, STACK_PAGES);
         let start = image.start();
         let table = PageTable::new(alloc, pages, pages_to(start))?;

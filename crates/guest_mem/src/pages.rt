@@ -1,45 +1,60 @@
-//! The pages of a guest by place: their rights, and slots with the bytes of those that were written.
+//! The pages of a guest by place: their rights, and slots with their bytes.
 
-ghost use Rattle.std.specs.Prelude.{◌≡◌, ℕ, ◌+◌, ◌*◌, ◌^◌, ◌<◌, ◌≤◌, ◌⊎◌, [], ◌∷◌, ◌++◌, IfOk, OnOk, length, take, drop, slice_index, slice_index_or, vec_len, vec_capacity};
+ghost use Rattle.std.specs.Prelude.{◌≡◌, ℕ, ◌+◌, ◌*◌, ◌^◌, ◌<◌, ◌≤◌, ◌⊎◌, [], ◌∷◌, ◌++◌, IfOk, OnOk, length, map, take, drop, slice_index, slice_index_or, vec_len, vec_capacity};
+ghost use Rattle.std.specs.Arc.{arc_value};
 ghost use Rattle.std.proofs.Props.{props};
 ghost use Rattle.guest_mem.specs.Break.{max_pages};
-ghost use Rattle.guest_mem.specs.inside.Pages.{GuestPage, IsRewritten, zero_page, zero_pages};
-ghost use Rattle.guest_mem.specs.inside.Slots.{AreSlots, slots};
-ghost use Rattle.elf_load.specs.Room.{page_size};
+ghost use Rattle.guest_mem.specs.inside.Pages.{GuestPage, IsRewritten, of_image, zero_page, zero_pages};
+ghost use Rattle.guest_mem.specs.inside.Slots.{AreSlots, shared_bytes, slot_bytes, slots};
+ghost use Rattle.elf_load.specs.Room.{page_size, max_program_pages};
 
 use crate::entry::Entry;
-use elf_load::{PAGE_SIZE, Rights};
+use crate::listing::image_entries;
+use elf_load::{PAGE_SIZE, Rights, SharedPages};
 use std::alloc::{AllocError, Global};
+use std::sync::Arc;
 
-/// The slot that is all zeros and no page's own: it has the bytes of each page that was never written.
+/// The shared slot that is all zeros: it has the bytes of each page of the stack and the heap that was never written.
 const ZEROS: u16 = 0;
 
-/// The pages of a guest, each at its place. A page takes a slot when it is first written, and all bytes lie in one
-/// vector, whose room is reserved before there is a page that may need it. An entry past `count` is of a page that was
-/// unmapped, and its slot is the next page's at its place.
+/// The pages of a guest, each at its place. The slots below `first_own` are shared by all guests of the image, and are
+/// never written: the page of zeros, and the image's pages. A page takes a slot of its own when it is first written, and
+/// the bytes of these lie in one vector, whose room is reserved before there is a page that may need it. An entry past
+/// `count` is of a page that was unmapped, and its slot is the next page's at its place.
 #[derive(Drop)]
 pub(crate) struct Pages {
+    shared: Arc<SharedPages, Global>,
+    first_own: usize,
     entries: Vec<Entry>,
     count: usize,
     bytes: Vec<u8>,
-    ghost sound: { AreSlots (slots entries.items) count bytes.items (vec_capacity bytes) } by { Prim.hlevel props },
+    ghost shares: { first_own ≡ vec_len (arc_value shared).pages + 1 },
+    ghost sound: { AreSlots (slots entries.items) count first_own (shared_bytes (arc_value shared) ++ bytes.items) (vec_capacity bytes) } by { Prim.hlevel props },
 }
 
 impl Pages {
     ghost use Rattle.guest_mem.specs.inside.PageStore.{HasRoom, shown};
 
-    /// No pages, and room for this many.
-    pub fn new(alloc: Global, room: usize) -> Result<Pages, AllocError>
-        requires { room ≤ max_pages }
-        ensures none { IfOk result (λ pages. shown pages ≡ []) }
-        ensures count { IfOk result (λ pages. pages.count ≡ 0) }
-        ensures room { IfOk result (λ pages. HasRoom pages room) }
+    /// The pages of an image, and room for `more` pages.
+    pub fn of_image(
+        alloc: Global,
+        shared: Arc<SharedPages, Global>,
+        more: usize,
+    ) -> Result<Pages, AllocError>
+        requires few { vec_len (arc_value shared).pages ≤ max_program_pages }
+        requires room { vec_len (arc_value shared).pages + more ≤ max_pages }
+        ensures pages { IfOk result (λ pages. shown pages ≡ map of_image (arc_value shared).pages.items) }
+        ensures count { IfOk result (λ pages. pages.count ≡ vec_len (arc_value shared).pages) }
+        ensures room { IfOk result (λ pages. HasRoom pages (vec_len (arc_value shared).pages + more)) }
     {
-        let mut bytes = Vec::with_capacity(alloc, (room + 1) * PAGE_SIZE)?;
-        bytes.resize(PAGE_SIZE, 0)?;
+        let count = shared.pages.len();
+        let entries = image_entries(alloc, &shared, more)?;
+        let bytes = Vec::with_capacity(alloc, (count + more) * PAGE_SIZE)?;
         Ok(Pages {
-            entries: Vec::with_capacity(alloc, room)?,
-            count: 0,
+            shared,
+            first_own: count + 1,
+            entries,
+            count,
             bytes,
         })
     }
@@ -85,8 +100,13 @@ impl Pages {
         ensures value { (d : GuestPage) → result.now ≡ take len (drop offset (slice_index_or (shown self.now) place d).bytes) }
         ensures len { length result.now ≡ len }
     {
-        let from = self.entries[place].slot as usize * PAGE_SIZE + offset;
-        &self.bytes[from..from + len]
+        let slot = self.entries[place].slot as usize;
+        if slot < self.first_own {
+            &shared_slot(&self.shared, slot)[offset..offset + len]
+        } else {
+            let from = (slot - self.first_own) * PAGE_SIZE + offset;
+            &self.bytes[from..from + len]
+        }
     }
 
     /// Puts `part` into a page from an offset on.
@@ -99,41 +119,46 @@ impl Pages {
         ensures room { (n : ℕ) → HasRoom self.old n → HasRoom self.new n }
     {
         let slot = self.own_slot(place);
-        overwrite(&mut self.bytes, slot * PAGE_SIZE + offset, part);
+        overwrite(
+            &mut self.bytes,
+            (slot - self.first_own) * PAGE_SIZE + offset,
+            part,
+        );
     }
 
-    /// The slot of a page that is to be written, which takes one where it has none.
+    /// The own slot of a page that is to be written, which takes one where it has a shared one.
     #[inline(always)]
     fn own_slot(&mut self, place: usize) -> usize
         requires { place < self.old.count }
         ensures same { shown self.new ≡ shown self.old }
-        ensures own { 0 < result }
+        ensures own { self.new.first_own ≤ result }
         ensures slot { slice_index (slots self.new.entries.items) place ≡ result }
         ensures count { self.new.count ≡ self.old.count }
         ensures room { (n : ℕ) → HasRoom self.old n → HasRoom self.new n }
     {
-        let slot = self.entries[place].slot;
-        if slot == ZEROS {
+        let slot = self.entries[place].slot as usize;
+        if slot < self.first_own {
             self.take_slot(place)
         } else {
-            slot as usize
+            slot
         }
     }
 
-    /// A slot for a page that has none. Its bytes stay 0.
+    /// A slot of its own for a page that has a shared one, with the same bytes.
     #[cold]
     #[inline(never)]
     fn take_slot(&mut self, place: usize) -> usize
         requires place { place < self.old.count }
-        requires none { slice_index (slots self.old.entries.items) place ≡ 0 }
+        requires shared { slice_index (slots self.old.entries.items) place < self.old.first_own }
         ensures same { shown self.new ≡ shown self.old }
-        ensures own { 0 < result }
+        ensures own { self.new.first_own ≤ result }
         ensures slot { slice_index (slots self.new.entries.items) place ≡ result }
         ensures count { self.new.count ≡ self.old.count }
         ensures room { (n : ℕ) → HasRoom self.old n → HasRoom self.new n }
     {
-        let slot = self.bytes.len() / PAGE_SIZE;
-        let Ok(()) = self.bytes.resize((slot + 1) * PAGE_SIZE, 0) else {
+        let slot = self.first_own + self.bytes.len() / PAGE_SIZE;
+        let was = shared_slot(&self.shared, self.entries[place].slot as usize);
+        let Ok(()) = self.bytes.extend_from_slice(was) else {
             unreachable!()
         };
         self.entries[place] = Entry {
@@ -154,7 +179,8 @@ impl Pages {
         let wanted = self.count + more;
         self.entries
             .reserve(wanted.saturating_sub(self.entries.len()))?;
-        self.bytes.reserve(((wanted + 1) * PAGE_SIZE).saturating_sub(self.bytes.len()))?;
+        self.bytes
+            .reserve((wanted * PAGE_SIZE).saturating_sub(self.bytes.len()))?;
         Ok(())
     }
 
@@ -179,7 +205,7 @@ impl Pages {
         }
     }
 
-    /// A page more at a place that an unmapped page had: its slot is cleared, where it has one.
+    /// A page more at a place that an unmapped page had: its own slot is cleared, where it has one.
     fn push_again(&mut self, number: u32, rights: Rights)
         requires in_range { number < 2 ^ 20 }
         requires behind { self.old.count < vec_len self.old.entries }
@@ -188,11 +214,35 @@ impl Pages {
         ensures room { (n : ℕ) → HasRoom self.old n → HasRoom self.new n }
     {
         let slot = self.entries[self.count].slot;
-        clear(&mut self.bytes, slot as usize * PAGE_SIZE);
+        if (slot as usize) < self.first_own {
+            self.push_unwritten(number, rights);
+            return;
+        }
+        clear(
+            &mut self.bytes,
+            (slot as usize - self.first_own) * PAGE_SIZE,
+        );
         self.entries[self.count] = Entry {
             number,
             rights,
             slot,
+        };
+        self.count += 1;
+    }
+
+    /// The same where that page was never written.
+    fn push_unwritten(&mut self, number: u32, rights: Rights)
+        requires in_range { number < 2 ^ 20 }
+        requires behind { self.old.count < vec_len self.old.entries }
+        requires shared { slice_index (slots self.old.entries.items) self.old.count < self.old.first_own }
+        ensures pushed { shown self.new ≡ shown self.old ++ zero_page rights number ∷ [] }
+        ensures count { self.new.count ≡ self.old.count + 1 }
+        ensures room { (n : ℕ) → HasRoom self.old n → HasRoom self.new n }
+    {
+        self.entries[self.count] = Entry {
+            number,
+            rights,
+            slot: ZEROS,
         };
         self.count += 1;
     }
@@ -224,6 +274,19 @@ impl Pages {
         ensures count { self.new.count ≡ count }
     {
         self.count = count;
+    }
+}
+
+/// The bytes of a shared slot: zeros, or a page of the image.
+#[inline]
+fn shared_slot(shared: &SharedPages, slot: usize) -> &[u8]
+    requires { slot ≤ vec_len shared.now.pages }
+    ensures { result.now ≡ slot_bytes (shared_bytes shared.now) slot }
+{
+    if slot == 0 {
+        &shared.zeros
+    } else {
+        &shared.pages[slot - 1].bytes
     }
 }
 

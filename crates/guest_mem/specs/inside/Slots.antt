@@ -1,9 +1,15 @@
--- Where the bytes of pages stand: in slots of page_size bytes, the first of which is all zeros and no page's own.
-use Rattle.std.specs.Prelude.{◌≡◌, ℕ, zero, suc, ◌+◌, ◌*◌, ◌<◌, ◌≤◌, List, [], ◌∷◌, map, length, take, drop, slice_index}
+-- Where the bytes of pages stand: in slots of page_size bytes. The first of them are shared by all guests of an image: one
+-- that is all zeros, and one for each page of the image. Those behind them are each one page's own.
+use Rattle.std.specs.Prelude.{◌≡◌, ℕ, ◌+◌, ◌*◌, ◌<◌, ◌≤◌, List, [], ◌∷◌, ◌++◌, map, flat_map, length, take, drop, slice_index, if◌then◌else◌, nat_lt}
 use Rattle.guest_mem.specs.declared.entry.Entry.{Entry}
 use Rattle.guest_mem.specs.Break.{max_pages}
 use Rattle.guest_mem.specs.inside.Pages.{GuestPage}
+use Rattle.elf_load.specs.declared.shared.SharedPages.{SharedPages}
 use Rattle.elf_load.specs.Room.{page_size}
+
+-- the bytes of the shared slots
+unfoldable pub shared_bytes : SharedPages → List ℕ
+shared_bytes shared = shared.zeros.items ++ flat_map (λ p. p.bytes.items) shared.pages.items
 
 -- the bytes of a slot
 unfoldable pub slot_bytes : List ℕ → ℕ → List ℕ
@@ -19,19 +25,20 @@ entry_numbers entries = map (λ e. e.number) entries
 abbrev pub slots : List Entry → List ℕ
 slots entries = map (λ e. e.slot) entries
 
--- how many entries have a slot of their own
-abbrev pub taken : List ℕ → ℕ
-taken [] = 0
-taken (zero ∷ ss) = taken ss
-taken (suc s ∷ ss) = taken ss + 1
+-- how many entries have a slot of their own, which begin at `first`
+abbrev pub taken : ℕ → List ℕ → ℕ
+taken first [] = 0
+taken first (s ∷ ss) = if nat_lt s first then taken first ss else taken first ss + 1
 
--- What is kept of slots and their bytes: entries that have a slot have each its own, the bytes are those of the slots that
--- are taken, and there is room for one more for each entry that has none.
-pub record AreSlots (ss : List ℕ) (count : ℕ) (bytes : List ℕ) (room : ℕ) : Type 0 where
+-- What is kept of slots and their bytes: entries that have an own slot have each its own, the bytes are those of the shared
+-- slots and of those that are taken, and there is room for one more for each entry that has none.
+pub record AreSlots (ss : List ℕ) (count first : ℕ) (bytes : List ℕ) (room : ℕ) : Type 0 where
   pub within : count ≤ length ss
   pub few : length ss ≤ max_pages
+  pub few_shared : first ≤ max_pages
   pub zero : (o : ℕ) → o < page_size → slice_index bytes o ≡ 0
-  pub whole : length bytes ≡ page_size * (taken ss + 1)
-  pub each_in : (i : ℕ) → i < length ss → slice_index ss i ≤ taken ss
-  pub own : (i j : ℕ) → i < length ss → j < length ss → 0 < slice_index ss i → slice_index ss i ≡ slice_index ss j → i ≡ j
-  pub roomy : page_size * (length ss + 1) ≤ room
+  pub some : 0 < first
+  pub whole : length bytes ≡ page_size * (first + taken first ss)
+  pub each_in : (i : ℕ) → i < length ss → slice_index ss i < first + taken first ss
+  pub own : (i j : ℕ) → i < length ss → j < length ss → first ≤ slice_index ss i → slice_index ss i ≡ slice_index ss j → i ≡ j
+  pub roomy : page_size * length ss ≤ room

@@ -1,5 +1,9 @@
 use Rattle.std.proofs.Common.{◌≡◌, ◌≤◌, length, ap, sym, ◌∙◌, arith, Ok, vec_len}
 use Rattle.std.proofs.lemmas.Result.{err_from_is_err_and}
+use Rattle.std.specs.Prelude.{Vec}
+use Rattle.std.specs.declared.alloc.Global.{Global}
+use Rattle.elf_load.specs.Cells.{cells_of}
+use Rattle.elf_load.specs.declared.page.Page.{Page}
 use Rattle.elf_load.specs.Pages.{highest_end, rounded_up}
 use Rattle.elf_load.proofs.Loading.{fault_of_header, refusal_of_program_header, fault_of_entry, no_fault, made_image, length-numbers, pages_below}
 use Rattle.elf_load.proofs.Touched.{highest_end_in_range, numbers_in_range, numbers_below_start}
@@ -36,9 +40,14 @@ new-requires-clause-in_range c =
     rw c.deref-2.ensures.value (highest_end_in_range c.args.bytes.now c.in_ok-layout.layout.segments.items c.in_ok-layout.ensures.sound.placed) in
     rw c.first_break-start.ensures (omega arith)
 
+pub new-requires-clause-few : goal.new-requires-clause-few
+new-requires-clause-few c =
+    let numbers = c.in_ok-pages.ensures.numbers ∙ c.deref-4.ensures.value in
+    omega (arith, ap (λ (ps : Vec Page Global). vec_len ps) c.in_ok-shared.ensures, length-numbers c.in_ok-pages.pages.items c.in_ok-layout.layout.pages.items numbers, c.in_ok-layout.ensures.sound.few)
+
 pub new-requires-clause-below_start : goal.new-requires-clause-below_start
 new-requires-clause-below_start c =
-    rw (c.first_break-start.ensures, c.deref-2.ensures.value)
+    rw (c.in_ok-shared.ensures, c.first_break-start.ensures, c.deref-2.ensures.value)
     (pages_below c.in_ok-pages.pages.items c.in_ok-layout.layout.pages.items (rounded_up (highest_end c.in_ok-layout.layout.segments.items))
     (c.in_ok-pages.ensures.numbers ∙ c.deref-4.ensures.value)
     (numbers_below_start c.args.bytes.now c.in_ok-layout.layout.segments.items c.in_ok-layout.layout.pages.items c.in_ok-layout.ensures.sound.placed c.in_ok-layout.ensures.sound.pages))
@@ -55,4 +64,5 @@ returns-clause-loaded c =
     (made_image c.args.bytes.now c.in_ok-pages.pages.items c.in_ok-layout.layout.pages.items c.in_ok-layout.layout.segments.items c.in_ok-header.header.entry c.first_break-start.result (vec_len c.in_ok-pages.pages)
     c.in_ok-layout.ensures.segments c.in_ok-layout.ensures.sound.pages cells entry_is
     (c.first_break-start.ensures ∙ ap (λ ss. rounded_up (highest_end ss)) c.deref-2.ensures.value) count
+    ∙ ap (λ (ps : Vec Page Global). record { cells = cells_of ps.items; entry = c.in_ok-header.header.entry; start = c.first_break-start.result; pages = vec_len ps }) (sym c.in_ok-shared.ensures)
     ∙ sym c.new.ensures)

@@ -1,4 +1,5 @@
 use Rattle.std.proofs.Common.{◌≡◌, ◌+◌, ◌*◌, ◌≤◌, List, ◌++◌, ap, ◌∙◌, arith}
+use Rattle.std.specs.Arc.{arc_value}
 use Rattle.elf_load.specs.Cells.{Cells}
 use Rattle.elf_load.specs.declared.page.Page.{Page}
 use Rattle.elf_load.specs.Room.{page_size}
@@ -11,19 +12,19 @@ use Rattle.guest_mem.proofs.mem.Mem.from_image.Goals as goal
 
 pub new-requires-clause-apart : goal.new-requires-clause-apart
 new-requires-clause-apart c = λ n above below.
-    apart_at_start c.pages.result.now (shown c.push_zeros.new.self) c.args.image.now.start 0xBFF00 stack_pages n
-    (c.push_zeros.ensures.pushed ∙ ap (λ ps. ps ++ zero_pages 0xBFF00 stack_pages) c.in_ok-pages.ensures.pages) c.pages.ensures.below_start
+    apart_at_start (arc_value c.in_ok-shared.shared).pages.items (shown c.push_zeros.new.self) c.args.image.now.start 0xBFF00 stack_pages n
+    (c.push_zeros.ensures.pushed ∙ ap (λ ps. ps ++ zero_pages 0xBFF00 stack_pages) c.in_ok-pages.ensures.pages) c.in_ok-shared.ensures.below_start
     (omega (arith, c.pages_to.ensures, c.start-start.ensures.value)) (omega arith)
 
 pub returns : goal.returns
 returns c =
     let image = c.args.image.now in
-    let ps : List Page = c.pages.result.now in
+    let ps : List Page = (arc_value c.in_ok-shared.shared).pages.items in
     let low : c.args.image.now.start ≤ page_size * 0xBFF00 = omega (arith, c.start-start.ensures.value, c.start-start.ensures.in_range) in
     let cells : mapped_cells (shown c.in_ok-table.table.pages) ≡ with_zeros image.cells stack_base (page_size * stack_pages) =
     ap mapped_cells (c.in_ok-table.ensures.pages ∙ c.push_zeros.ensures.pushed ∙ ap (λ ps. ps ++ zero_pages 0xBFF00 stack_pages) c.in_ok-pages.ensures.pages)
-    ∙ cells_at_start ps c.args.image.now.start 0xBFF00 stack_pages c.pages.ensures.below_start low
-    ∙ ap (λ (c : Cells). with_zeros c stack_base (page_size * stack_pages)) c.pages.ensures.cells in
+    ∙ cells_at_start ps c.args.image.now.start 0xBFF00 stack_pages c.in_ok-shared.ensures.below_start low
+    ∙ ap (λ (c : Cells). with_zeros c stack_base (page_size * stack_pages)) c.in_ok-shared.ensures.cells in
     let count : c.in_ok-table.table.pages.count ≡ c.args.image.now.pages + stack_pages =
-    omega (arith, c.in_ok-table.ensures.count, c.push_zeros.ensures.count, c.in_ok-pages.ensures.count, c.pages.ensures.count) in
+    omega (arith, c.in_ok-table.ensures.count, c.push_zeros.ensures.count, c.in_ok-pages.ensures.count, c.in_ok-shared.ensures.count) in
     opening_is image (mapped_cells (shown c.in_ok-table.table.pages)) c.start-start.result c.in_ok-table.table.pages.count cells c.start-start.ensures.value count
