@@ -3,3 +3,4 @@ pub mod Listings
 pub mod Writings
 pub mod Capturing
 pub mod LinesFit
+pub mod Shares

@@ -1,5 +1,5 @@
 -- What outputs and lines put into the files that grow while a run goes on.
-use Rattle.std.specs.Prelude.{◌≡◌, ℕ, ◌+◌, List, [], ◌∷◌, ◌++◌, map, flat_map, slice_get, Option, Some, None, true, Bool, false}
+use Rattle.std.specs.Prelude.{ℕ, ◌+◌, List, [], ◌∷◌, ◌++◌, map, flat_map, slice_get, Option, Some, None, true, Bool, false}
 use Rattle.std.specs.List.{filter}
 use Rattle.run_outside.specs.declared.sink.SinkTarget.TheVariants as target
 use Rattle.file_calls.specs.declared.task.Output.{Output}

@@ -14,14 +14,15 @@ ghost use Rattle.host_link.specs.Logs.{kept_lines};
 use crate::capture::push_captures;
 use crate::fitting::lines_fit;
 use crate::listed::{HostListing, Listing, ProcessListing};
+use crate::log_text::log_text;
 use crate::piece::{Piece, file_piece, log_piece, numbers, written_to};
 use crate::written::Written;
-use base_texts::{Name, Text};
 use file_calls::Output;
-use host_link::{Line, Logged};
-use out_text::{FileKind, LogLine};
+use host_link::Logged;
+use out_text::FileKind;
 use sim_base::{Bytes, NoMemory};
 use std::alloc::Global;
+use std::thread::Threads;
 
 /// Bytes for a file of a process, behind other pieces, where there are any.
 fn push_bytes(
@@ -114,57 +115,18 @@ fn output_pieces(
     Ok(pieces)
 }
 
-/// The name of the host with a number.
-fn host_name(hosts: &[HostListing], number: u32) -> &str
-    ensures { result.now ≡ spec.listed_name (slice_get (map said hosts.now) number) }
-{
-    match hosts.get(number as usize) {
-        Some(host) => host.name.as_str(),
-        None => "",
-    }
-}
-
-/// A line with the name of its host.
-fn told_line(alloc: Global, hosts: &[HostListing], line: Logged) -> Result<LogLine, NoMemory>
-    ensures { IfOk result (λ l. l ≡ spec.told_line (map said hosts.now) line.line) }
-{
-    let Line {
-        time,
-        host,
-        act,
-        packet,
-    } = line.line;
-    let host = Name::from_str(alloc, host_name(hosts, host.index))?;
-    Ok(LogLine {
-        time,
-        host,
-        act,
-        packet,
-    })
-}
-
-/// The text of lines.
-fn lines_text(alloc: Global, hosts: &[HostListing], lines: Vec<Logged>) -> Result<Text, NoMemory>
-    ensures { IfOk result (λ text. text ≡ flat_map log_line (map (spec.told_line (map said hosts.now)) (kept_lines lines.items))) }
-{
-    let mut text = String::new(alloc);
-    for line in lines {
-        let line = told_line(alloc, hosts, line)?;
-        write!(text, "{line}\n")?;
-    }
-    Ok(Text::from(text))
-}
-
 /// The text of lines for the packet log, behind other pieces, where there are any.
-fn push_lines(
+fn push_lines<R: Threads + Sync>(
+    rt: &R,
     alloc: Global,
     pieces: &mut Vec<Piece>,
     hosts: &[HostListing],
     lines: Vec<Logged>,
+    threads: usize,
 ) -> Result<(), NoMemory>
     ensures { OnOk result (map put_of pieces.new.items ≡ map put_of pieces.old.items ++ spec.with_bytes (spec.log_grown (map said hosts.now) (kept_lines lines.items) ∷ [])) }
 {
-    let text = lines_text(alloc, hosts, lines)?;
+    let text = log_text(rt, alloc, hosts, lines, threads)?;
     if text.is_empty() {
         return Ok(());
     }
@@ -173,12 +135,15 @@ fn push_lines(
 }
 
 /// The targets and bytes that a round gained: what the processes of all hosts wrote, each host's by
-/// its place, the records of its captures, and the lines of the packet log.
-pub fn round_pieces(
+/// its place, the records of its captures, and the lines of the packet log. So many threads may make the text of
+/// the lines.
+pub fn round_pieces<R: Threads + Sync>(
+    rt: &R,
     alloc: Global,
     listing: &Listing,
     written: &Written,
     lines: Vec<Logged>,
+    threads: usize,
 ) -> Result<Vec<Piece>, NoMemory>
     requires { length (written_in written.now) ≡ length (names_of listing.now) }
     ensures pieces { IfOk result (λ pieces. map put_of pieces.items ≡ spec.with_bytes (spec.all_grown (names_of listing.now) (written_in written.now) (kept_lines lines.items))) }
@@ -190,6 +155,6 @@ pub fn round_pieces(
     let hosts = listing.hosts.as_slice();
     let mut pieces = output_pieces(alloc, listing, written)?;
     push_captures(alloc, &mut pieces, listing, &lines)?;
-    push_lines(alloc, &mut pieces, hosts, lines)?;
+    push_lines(rt, alloc, &mut pieces, hosts, lines, threads)?;
     Ok(pieces)
 }

@@ -6,6 +6,7 @@ mod fitting;
 mod growing;
 mod listed;
 mod listing;
+mod log_text;
 mod piece;
 mod written;
 

@@ -129,7 +129,8 @@ impl World {
             lines,
             took,
         } = self.advance(rt, alloc, least, workers, gate)?;
-        let files = round_pieces(alloc, &self.listing, &outputs, lines)?;
+        let threads = took.threads();
+        let files = round_pieces(rt, alloc, &self.listing, &outputs, lines, threads)?;
         Ok(Pieces { files, took })
     }
 }

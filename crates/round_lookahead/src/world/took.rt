@@ -10,3 +10,13 @@ pub enum Took {
     /// Each worker took the hosts of its list.
     Each(Vec<Vec<HostId>>),
 }
+
+impl Took {
+    /// How many threads may make the text of the round's lines: as many as it had workers side by side.
+    pub(crate) fn threads(&self) -> usize {
+        match self {
+            Took::First { .. } => 1,
+            Took::Each(lists) => lists.len(),
+        }
+    }
+}

@@ -1,6 +1,5 @@
-use Rattle.std.proofs.Common.{◌≡◌, ◌≤◌, List, length, Bool, false, nat_lt, is_some, ap, sym, ◌∙◌, arith}
+use Rattle.std.proofs.Common.{◌≡◌, ◌≤◌, length, false, nat_lt, is_some, ap, sym, ◌∙◌, arith}
 use Rattle.std.proofs.lemmas.Bool.Decides.{nat_tests}
-use Rattle.host_link.specs.declared.line.Line.{Line}
 use Rattle.run_files.proofs.Capturing.{line_put, line_beyond, line_unheld}
 use Rattle.run_files.proofs.capture.capture_at.Goals as goal
 

@@ -1,8 +1,7 @@
-use Rattle.std.proofs.Common.{◌≡◌, ℕ, List, length, map, sym, ap, ◌∙◌, arith}
+use Rattle.std.proofs.Common.{◌≡◌, ℕ, length, map, sym, ap, ◌∙◌, arith}
 use Rattle.std.specs.Prelude.{replicate}
 use Rattle.std.proofs.lemmas.List.{length-map}
 use Rattle.run_files.specs.Listed.{said}
-use Rattle.run_files.specs.declared.capture.Captured.{Captured}
 use Rattle.run_files.proofs.Capturing.{nothing, nothing_captured}
 use Rattle.run_files.proofs.capture.none_captured.Goals as goal
 

@@ -22,7 +22,7 @@ parts names outputs lines =
     ∙ sym (with_bytes_append (hosts_grown names outputs) (captures ++ (log_grown names lines ∷ [])))
 
 pub returns-clause-pieces : goal.returns-clause-pieces
-returns-clause-pieces c =
+returns-clause-pieces g c =
     let names = names_of c.args.listing.now in
     let outputs = written_in c.args.written.now in
     let lines = kept_lines c.args.lines.items in

@@ -1,4 +1,4 @@
-use Rattle.std.proofs.Common.{◌≡◌, ℕ, ◌∙◌, ap, sym, List, Option, option_map, Bor}
+use Rattle.std.proofs.Common.{ℕ, ◌∙◌, ap, sym, List, Option, option_map, Bor}
 use Rattle.run_files.specs.Files.{last_part}
 use Rattle.run_files.proofs.Paths.{program_split}
 use Rattle.run_files.proofs.piece.program.Goals as goal

@@ -9,9 +9,11 @@ use Rattle.round_lookahead.proofs.world.world_state.World.round.Goals as goal
 pub round_pieces-requires : goal.round_pieces-requires
 round_pieces-requires g c =
     let (w, stands) = c.requires.stands in
-    let turns = c.in_ok-outputs.ensures.turns w stands in
-    outputs_fit c.args.self.now c.advance.new.self c.args.workers w turns.0 c.in_ok-outputs.field-0 stands turns.1
-    ∙ ap (λ (l : Listing). length (names_of l)) (sym c.in_ok-outputs.ensures.listing)
+    let turns = c.in_ok-outputs.ensures.turns w stands in (
+      c.type_bounds.sync-R,
+      outputs_fit c.args.self.now c.advance.new.self c.args.workers w turns.0 c.in_ok-outputs.field-0 stands turns.1
+          ∙ ap (λ (l : Listing). length (names_of l)) (sym c.in_ok-outputs.ensures.listing),
+    )
 
 pub returns-clause-round : goal.returns-clause-round
 returns-clause-round g c = λ w stands.

@@ -5,7 +5,7 @@ use Rattle.out_text.specs.Log.{log_line}
 use Rattle.run_files.specs.Grown.{told_line}
 use Rattle.run_files.specs.Listed.{said}
 use Rattle.host_link.specs.Logs.{kept_lines}
-use Rattle.run_files.proofs.growing.lines_text.Given as goal
+use Rattle.run_files.proofs.log_text.lines_text.Given as goal
 
 -- what is left completes the whole
 abbrev pub invariant-loop-line : goal.invariant-loop-line
