@@ -24,7 +24,7 @@ impl Rights {
     }
 
     /// The rights of either.
-    pub fn union(self, other: Rights) -> Rights
+    pub(crate) fn union(self, other: Rights) -> Rights
         ensures { result ≡ union self other }
     {
         Rights {

@@ -17,7 +17,7 @@ impl Right {
 
     /// Whether this right is among `rights`.
     #[inline]
-    pub fn is_among(self, rights: Rights) -> bool
+    pub(crate) fn is_among(self, rights: Rights) -> bool
         ensures { result ≡ permits self rights }
     {
         match self {

@@ -125,7 +125,7 @@ impl Net {
 
     /// The route from a host to the one that has an address, if that is another host.
     #[tactic(auto, unfolding(crate::specs::Sending::route_to))]
-    pub fn route_to(&self, host: u32, ip: Ip) -> Option<(Time, u32)>
+    pub(crate) fn route_to(&self, host: u32, ip: Ip) -> Option<(Time, u32)>
         ensures { result ≡ route_to self.now host ip }
     {
         let other = self.known.book.host_at(ip)?;

@@ -41,7 +41,7 @@ impl<L: Ledger> Steps<L> {
     }
 
     /// One more instruction runs.
-    pub fn tick(&mut self)
+    pub(crate) fn tick(&mut self)
         ensures { self.new ≡ self.old + 1 }
     {
         self.book.add(&mut self.share, 1);

@@ -69,7 +69,7 @@ impl LinePlace {
 
     /// Whether a line that stands here is one of a literal block: a blank one, or one that doesn't
     /// stand left of the block.
-    pub fn is_body(self, line: &[u8]) -> bool
+    pub(crate) fn is_body(self, line: &[u8]) -> bool
         ensures { result ≡ is_body self line.now }
     {
         match self {
@@ -80,7 +80,7 @@ impl LinePlace {
     }
 
     /// The column of the block's bar.
-    pub fn bar_column(self) -> usize
+    pub(crate) fn bar_column(self) -> usize
         ensures { result ≡ bar_column self }
     {
         match self {

@@ -66,7 +66,7 @@ impl Conn {
 
     /// Answers a SYN with the number `seq`: the SYN and ACK goes out (RFC 9293, section 3.10.7.2).
     #[tactic(auto, unfolding(crate::specs::connection::Process::answered))]
-    pub fn answer_syn(
+    pub(crate) fn answer_syn(
         alloc: Global,
         local: Addr,
         peer: Addr,

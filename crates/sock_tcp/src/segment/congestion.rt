@@ -76,7 +76,7 @@ impl Congestion {
     }
 
     /// As many more as `by` are acknowledged, perhaps none.
-    pub fn acknowledged(self, by: u32) -> Congestion
+    pub(crate) fn acknowledged(self, by: u32) -> Congestion
         ensures { result ≡ acknowledged by self }
     {
         if by == 0 {
@@ -90,7 +90,7 @@ impl Congestion {
     }
 
     /// A segment was lost, as duplicate acknowledgements tell.
-    pub fn halved(in_flight: usize) -> Congestion
+    pub(crate) fn halved(in_flight: usize) -> Congestion
         requires { in_flight < 131072 }
         ensures { result ≡ halved in_flight }
     {
@@ -102,7 +102,7 @@ impl Congestion {
     }
 
     /// The timer expired, for the first time since it was started anew or again.
-    pub fn timed_out(self, first: bool, in_flight: usize) -> Congestion
+    pub(crate) fn timed_out(self, first: bool, in_flight: usize) -> Congestion
         requires { in_flight < 131072 }
         ensures { result ≡ timed_out first in_flight self }
     {

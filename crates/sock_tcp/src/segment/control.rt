@@ -92,7 +92,7 @@ impl Control {
 
     /// A segment without ACK and text.
     #[tactic(auto, unfolding(crate::specs::segment::Control::without_ack))]
-    pub fn without_ack(&self, alloc: Global, flags: u8, seq: u32) -> Packet
+    pub(crate) fn without_ack(&self, alloc: Global, flags: u8, seq: u32) -> Packet
         ensures { result ≡ without_ack self.now flags seq }
     {
         self.segment(flags, seq, 0, u16::MAX, Bytes::new(alloc))
@@ -100,7 +100,7 @@ impl Control {
 
     /// How long the timer runs from its start on, in seconds.
     #[tactic(auto, using(crate::proofs::Segments::Numbers::seconds_within))]
-    pub fn timer_seconds(&self) -> u64
+    pub(crate) fn timer_seconds(&self) -> u64
         ensures value { result ≡ timer_seconds self.now }
         ensures within { result ≤ 60 }
     {
@@ -114,7 +114,7 @@ impl Control {
     }
 
     /// How many bytes may be in flight: as many as the peer and the congestion window allow.
-    pub fn send_window(&self) -> u16
+    pub(crate) fn send_window(&self) -> u16
         ensures { result ≡ send_window self.now }
     {
         self.window.min(self.congestion.cwnd)
@@ -139,7 +139,7 @@ impl Control {
     }
 
     /// Whether a read of `count` bytes finds the end of what the peer sent.
-    pub fn finds_end(&self, count: usize, waiting: usize) -> bool
+    pub(crate) fn finds_end(&self, count: usize, waiting: usize) -> bool
         ensures { result ≡ finds_end count waiting self.now }
     {
         count > 0 && waiting == 0 && self.fin_taken && !(self.reading_ended || self.had_error)
@@ -147,7 +147,7 @@ impl Control {
 
     /// What the end of writing leaves.
     #[tactic(auto, unfolding(crate::specs::segment::Control::writing_ended))]
-    pub fn after_writing(self) -> Control
+    pub(crate) fn after_writing(self) -> Control
         ensures { result ≡ writing_ended self }
     {
         Control {

@@ -38,7 +38,7 @@ pub enum Phase {
 }
 
 impl TcpState {
-    pub fn phase(self) -> Phase
+    pub(crate) fn phase(self) -> Phase
         ensures { result ≡ phase_of self }
     {
         match self {
@@ -51,7 +51,7 @@ impl TcpState {
     }
 
     /// The state once writing has ended.
-    pub fn after_writing(self) -> TcpState
+    pub(crate) fn after_writing(self) -> TcpState
         ensures { result ≡ after_writing self }
     {
         match self {
@@ -62,7 +62,7 @@ impl TcpState {
     }
 
     /// The state once the own FIN is acknowledged.
-    pub fn after_own_fin(self) -> TcpState
+    pub(crate) fn after_own_fin(self) -> TcpState
         ensures { result ≡ after_own_fin self }
     {
         match self {
@@ -74,7 +74,7 @@ impl TcpState {
     }
 
     /// The state once the peer's FIN is taken.
-    pub fn after_peer_fin(self) -> TcpState
+    pub(crate) fn after_peer_fin(self) -> TcpState
         ensures { result ≡ after_peer_fin self }
     {
         match self {
@@ -86,7 +86,7 @@ impl TcpState {
     }
 
     /// Whether text and a FIN are taken in this state.
-    pub fn takes_text(self) -> bool
+    pub(crate) fn takes_text(self) -> bool
         ensures { result ≡ takes_text self }
     {
         matches!(
@@ -102,25 +102,25 @@ impl TcpState {
         matches!(self, TcpState::Ended | TcpState::Vanished)
     }
 
-    pub fn is_time_wait(self) -> bool
+    pub(crate) fn is_time_wait(self) -> bool
         ensures { result ≡ is_time_wait self }
     {
         matches!(self, TcpState::TimeWait)
     }
 
-    pub fn is_sending(self) -> bool
+    pub(crate) fn is_sending(self) -> bool
         ensures { result ≡ is_sending self }
     {
         matches!(self.phase(), Phase::Open | Phase::Ending)
     }
 
-    pub fn is_synchronized(self) -> bool
+    pub(crate) fn is_synchronized(self) -> bool
         ensures { result ≡ is_synchronized self }
     {
         matches!(self.phase(), Phase::Open | Phase::Ending | Phase::Finished)
     }
 
-    pub fn is_opening(self) -> bool
+    pub(crate) fn is_opening(self) -> bool
         ensures { result ≡ is_opening self }
     {
         matches!(self, TcpState::SynSent | TcpState::SynReceived)
@@ -132,7 +132,7 @@ impl TcpState {
         matches!(self, TcpState::SynSent)
     }
 
-    pub fn is_syn_received(self) -> bool
+    pub(crate) fn is_syn_received(self) -> bool
         ensures { result ≡ is_syn_received self }
     {
         matches!(self, TcpState::SynReceived)
