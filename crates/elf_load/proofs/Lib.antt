@@ -4,6 +4,7 @@ pub mod Laying
 pub mod Loading
 pub mod Lookups
 pub mod Numbers
+pub mod Places
 pub mod Ranges
 pub mod Touched
 pub mod Written

@@ -37,7 +37,7 @@ set_of_append xs ys zs e =
 pub set_of_push : (xs : List ℕ) (k : ℕ) → set_of (xs ++ k ∷ []) ≡ insert (set_of xs) k
 set_of_push xs k = from_list_push nat_cmp_total nat_cmp-IsAntisymmetric xs k
 
-len_push : (xs : List ℕ) (k : ℕ) → len (set_of (xs ++ k ∷ [])) ≡ cond (list_any (λ y. y == k) xs) (len (set_of xs)) (len (set_of xs) + 1)
+pub len_push : (xs : List ℕ) (k : ℕ) → len (set_of (xs ++ k ∷ [])) ≡ cond (list_any (λ y. y == k) xs) (len (set_of xs)) (len (set_of xs) + 1)
 len_push xs k = ap len (set_of_push xs k) ∙ len-insert nat_cmp_total (set_of xs) k ∙ ap (λ b. cond b (len (set_of xs)) (len (set_of xs) + 1)) (contains_set_of xs k)
 
 step_up : (b : Bool) (n m : ℕ) → m ≡ cond b n (n + 1) → n ≤ m

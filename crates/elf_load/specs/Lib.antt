@@ -5,6 +5,7 @@ pub mod File
 pub mod Image
 pub mod Laws
 pub mod Pages
+pub mod Places
 pub mod ProgramImage
 pub mod Rights
 pub mod Room

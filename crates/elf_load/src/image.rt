@@ -1,11 +1,10 @@
 //! The image that a load makes.
 
-ghost use Rattle.std.specs.Prelude.{◌≡◌, ◌+◌, ◌*◌, ◌≤◌, IfOk, length, vec_len, All};
+ghost use Rattle.std.specs.Prelude.{◌≡◌, ◌+◌, ◌*◌, ◌≤◌, IfOk, vec_len, All};
 ghost use Rattle.std.specs.Arc.{arc_value};
 ghost use Rattle.elf_load.specs.Cells.{cells_of};
 ghost use Rattle.elf_load.specs.Room.{page_size, room_end, max_program_pages};
 
-use crate::page::Page;
 use crate::shared::SharedPages;
 use std::alloc::{AllocError, Global};
 use std::marker::Model;
@@ -50,16 +49,6 @@ impl Image {
             entry,
             start,
         }
-    }
-
-    /// The touched pages, each once.
-    pub fn pages(&self) -> &[Page]
-        ensures cells { cells_of result.now ≡ self.now.cells }
-        ensures count { length result.now ≡ self.now.pages }
-        ensures few { length result.now ≤ max_program_pages }
-        ensures below_start { All (λ p. page_size * p.number + page_size ≤ self.now.start) result.now }
-    {
-        self.shared.pages.as_slice()
     }
 
     /// One owner more of the touched pages.

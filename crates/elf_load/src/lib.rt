@@ -9,6 +9,7 @@ mod fault;
 mod fields;
 mod file;
 mod image;
+mod index;
 pub mod laws;
 mod layout;
 mod loader;

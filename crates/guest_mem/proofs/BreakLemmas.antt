@@ -4,16 +4,26 @@ use Rattle.std.proofs.lemmas.Bool.{le-leb}
 use Rattle.elf_load.specs.Cells.{Cells, cells_of}
 use Rattle.elf_load.specs.ProgramImage.{ProgramImage}
 use Rattle.elf_load.specs.declared.page.Page.{Page}
+use Rattle.elf_load.specs.declared.shared.SharedPages.{SharedPages}
+use Rattle.elf_load.specs.Places.{page_numbers, place_of}
 use Rattle.elf_load.specs.Room.{page_size, room_end}
+use Rattle.elf_load.proofs.Places.{place_of_append_nowhere, place_of_range_out}
 use Rattle.guest_mem.specs.Memory.{Memory}
 use Rattle.guest_mem.specs.Break.{with_zeros, without, pages_to, pages_end, pages_with, may_break, moved, grown, room_pages, max_pages}
 use Rattle.guest_mem.specs.Opening.{stack_base, stack_pages, opening}
-use Rattle.guest_mem.specs.inside.Pages.{GuestPage, of_image, zero_pages, mapped_cells, numbers, place_of}
-use Rattle.guest_mem.proofs.HeapLemmas.{with_zeros_none, without_none, cells_grown, zero_pages_are, below_start, cells_of_image, numbers_append}
-use Rattle.guest_mem.proofs.PageLemmas.{place_of_append_nowhere, place_of_range_out}
+use Rattle.guest_mem.specs.inside.Pages.{GuestPage, of_image, zero_pages, mapped_cells, numbers}
+use Rattle.guest_mem.specs.inside.Slots.{fixed_numbers, stack_first}
+use Rattle.guest_mem.proofs.HeapLemmas.{with_zeros_none, without_none, cells_grown, zero_pages_are, below_start, cells_of_image, numbers_append, numbers_of_image}
 
 same_memory : (c d : Cells) (s t b e p q : ℕ) → c ≡ d → s ≡ t → b ≡ e → p ≡ q → ◌≡◌ {A = Memory} (record { cells = c; start = s; break = b; pages = p }) (record { cells = d; start = t; break = e; pages = q })
 same_memory c d s t b e p q h i j k = cc
+
+-- the numbers of an image's pages and of the stack's
+pub numbers_at_start : (shared : SharedPages) (now : List GuestPage) → now ≡ map of_image shared.pages.items ++ zero_pages stack_first stack_pages → numbers now ≡ fixed_numbers shared
+numbers_at_start shared now is =
+    ap numbers is ∙ numbers_append (map of_image shared.pages.items) (zero_pages stack_first stack_pages)
+    ∙ ap (λ (ns : List ℕ). ns ++ numbers (zero_pages stack_first stack_pages)) (numbers_of_image shared.pages.items)
+    ∙ ap (λ (ns : List ℕ). page_numbers shared.pages.items ++ ns) (zero_pages_are stack_first stack_pages).numbered
 
 -- no page of an image and of the stack lies where the heap grows
 pub apart_at_start : (image : List Page) (now : List GuestPage) (start first count n : ℕ) → now ≡ map of_image image ++ zero_pages first count → All (λ p. page_size * p.number + page_size ≤ start) image

@@ -1,9 +1,8 @@
 -- Pages that are mapped and unmapped.
-use Rattle.std.proofs.Common.{◌≡◌, ℕ, zero, suc, ◌+◌, ◌-◌, ◌*◌, ◌^◌, ◌<◌, ◌≤◌, ◌⊎◌, inl, inr, Bool, true, false, cond, not, ◌&&◌, List, [], ◌∷◌, ◌++◌, length, get_or, take, drop, Option, Some, None, map, replicate, vec_len, refl, sym, ap, subst, ◌∙◌, arith, ⊎_elim, ltb, leb, Equal}
+use Rattle.std.proofs.Common.{◌≡◌, ℕ, zero, suc, ◌+◌, ◌-◌, ◌*◌, ◌<◌, ◌≤◌, ◌⊎◌, inl, inr, Bool, true, false, cond, not, ◌&&◌, List, [], ◌∷◌, ◌++◌, length, get_or, take, drop, append_assoc, Option, Some, None, map, replicate, vec_len, refl, sym, ap, subst, ◌∙◌, arith, ⊎_elim, ltb, leb, Equal}
 use Rattle.std.proofs.lemmas.Bool.{cases_lt, lt-ltb, le-ltb, le-leb}
 use Rattle.std.proofs.lemmas.Bool.Decides.{leb_tells}
-use Rattle.std.proofs.lemmas.List.{length-map, length-append, length-take-le, get_or_append_left, get_or-append-add, get_or-take, map-append, take-map, take-take, take-append-le, drop-append-le, take-append-drop, drop-take, drop-drop, get_or-map, get_or-replicate, get_or_past, length-replicate, take_all}
-use Rattle.std.proofs.Math.ListN.{drop_of_length-le}
+use Rattle.std.proofs.lemmas.List.{append-nil, length-map, length-append, length-take-le, get_or_append_left, get_or-append-add, get_or-take, map-append, take-map, take-append-drop, get_or-map, get_or-replicate, get_or_past, length-replicate}
 use Rattle.std.proofs.lemmas.Simd.{map-map}
 use Rattle.std.proofs.lemmas.List.FromFn.{length-range_with_len}
 use Rattle.std.specs.List.{range_with_len, flat_map, All}
@@ -12,11 +11,13 @@ use Rattle.std.specs.FinMap.{from_entries, get-retain_keys, same_map, nat_cmp-Is
 use Rattle.std.specs.Cmp.{nat_cmp_total, ranked}
 use Rattle.elf_load.specs.Cells.{Cell, Cells, cells_from, cells_of_page, cells_of}
 use Rattle.elf_load.specs.declared.page.Page.{Page}
+use Rattle.elf_load.specs.Places.{page_numbers, place_of}
 use Rattle.elf_load.specs.Room.{page_size}
+use Rattle.elf_load.proofs.Places.{told, place_of_in, place_of_append_some, place_of_append_none, place_of_append_nowhere, place_of_range_in, place_of_range_out}
 use Rattle.guest_mem.specs.Break.{zero_cell, with_zeros, without, room_pages}
-use Rattle.guest_mem.specs.inside.Pages.{GuestPage, of_image, zeros, zero_page, zero_pages, cell_in, cells_within, mapped_cells, numbers, place_of, AreZeroPages, IsPageTable}
+use Rattle.guest_mem.specs.inside.Pages.{GuestPage, of_image, zeros, zero_page, zero_pages, cell_in, cells_within, mapped_cells, numbers, AreZeroPages, IsPageTable}
 use Rattle.guest_mem.proofs.CellLemmas.{get-insert_same, get-insert_other}
-use Rattle.guest_mem.proofs.PageLemmas.{Entries, entries_of, told, by_page, place_of_in, place_of_append_some, place_of_append_none, place_of_append_nowhere, place_of_range_in, place_of_range_out, get_cells_some, get_cells_none}
+use Rattle.guest_mem.proofs.PageLemmas.{Entries, entries_of, by_page, place_of_none, get_cells_some, get_cells_none}
 
 -- the cells with zeros over a span
 pub get_with_zeros_in : (cells : Cells) (from n q : ℕ) → from ≤ q → q < from + n → finmap.get (with_zeros cells from n) q ≡ Some zero_cell
@@ -125,40 +126,49 @@ cells_grown ps fresh first count zeros apart =
         (λ (above : first ≤ n). ⊎_elim (λ (within : n < first + count). new_page n o l above within) (λ (past : first + count ≤ n). old_page n o l (inr past)) (cases_lt n (first + count)))
         (cases_lt n first)
 
--- a table with pages more at its end
-module _ (found : ℕ → Option ℕ) (ns : List ℕ) (fixed heap : ℕ) (table : IsPageTable found ns fixed heap) where
-  pub place_of_above : (n : ℕ) → heap + (length ns - fixed) ≤ n → n < room_pages → place_of ns n ≡ None
-  place_of_above n above below =
-      let behind : place_of (drop fixed ns) n ≡ None = ap (λ (ms : List ℕ). place_of ms n) table.rising ∙ place_of_range_out heap (length ns - fixed) n (inr above) in
-      subst (λ (ms : List ℕ). place_of ms n ≡ None) (take-append-drop fixed ns) (place_of_append_nowhere (take fixed ns) (drop fixed ns) n (table.apart n (omega arith) below) behind)
+-- numbers behind others
+take_behind : (k : ℕ) (xs ys : List ℕ) → length xs ≤ k → take k (xs ++ ys) ≡ xs ++ take (k - length xs) ys
+take_behind k [] ys l = ap (λ (n : ℕ). take n ys) (let e : k ≡ k - 0 = omega arith in e)
+take_behind zero (x ∷ xs) ys l = absurd (omega arith)
+take_behind (suc k) (x ∷ xs) ys l = ap (λ (zs : List ℕ). x ∷ zs) (take_behind k xs ys (omega arith)) ∙ ap (λ (n : ℕ). x ∷ (xs ++ take n ys)) (let e : k - length xs ≡ suc k - suc (length xs) = omega arith in e)
 
-  pub table_grown : (count : ℕ) → heap + (length ns - fixed) + count ≤ room_pages → IsPageTable found (ns ++ range_with_len (heap + (length ns - fixed)) count) fixed heap
+drop_behind : (k : ℕ) (xs ys : List ℕ) → length xs ≤ k → drop k (xs ++ ys) ≡ drop (k - length xs) ys
+drop_behind k [] ys l = ap (λ (n : ℕ). drop n ys) (let e : k ≡ k - 0 = omega arith in e)
+drop_behind zero (x ∷ xs) ys l = absurd (omega arith)
+drop_behind (suc k) (x ∷ xs) ys l = drop_behind k xs ys (omega arith) ∙ ap (λ (n : ℕ). drop n ys) (let e : k - length xs ≡ suc k - suc (length xs) = omega arith in e)
+
+-- a table with pages more at its end
+module _ (front ns : List ℕ) (heap : ℕ) (table : IsPageTable front ns heap) where
+  pub length_table : length ns ≡ length front + (length ns - length front)
+  length_table =
+      let more : List ℕ = range_with_len heap (length ns - length front) in
+      ap (λ (ms : List ℕ). length ms) table.listed ∙ length-append front more ∙ ap (λ (n : ℕ). length front + n) (length-range_with_len heap (length ns - length front))
+
+  pub place_of_above : (n : ℕ) → heap + (length ns - length front) ≤ n → n < room_pages → place_of ns n ≡ None
+  place_of_above n above below = place_of_none front ns heap table n (inr above) (table.apart n (omega arith) below)
+
+  pub table_grown : (count : ℕ) → heap + (length ns - length front) + count ≤ room_pages → IsPageTable front (ns ++ range_with_len (heap + (length ns - length front)) count) heap
   table_grown count bounded =
-      let more : List ℕ = range_with_len (heap + (length ns - fixed)) count in
-      let long : length (ns ++ more) ≡ length ns + count = length-append ns more ∙ ap (λ (x : ℕ). length ns + x) (length-range_with_len (heap + (length ns - fixed)) count) in
-      let fixed_in : fixed ≤ length ns = table.fixed_in in
-      let same : take fixed (ns ++ more) ≡ take fixed ns = take-append-le fixed ns more fixed_in in
-      let heap_len : length ns - fixed + count ≡ length (ns ++ more) - fixed = omega arith in
+      let old : List ℕ = range_with_len heap (length ns - length front) in
+      let more : List ℕ = range_with_len (heap + (length ns - length front)) count in
+      let long : length (ns ++ more) ≡ length ns + count = length-append ns more ∙ ap (λ (x : ℕ). length ns + x) (length-range_with_len (heap + (length ns - length front)) count) in
+      let heap_len : length ns - length front + count ≡ length (ns ++ more) - length front = omega (arith, long, length_table) in
       record {
-        fixed_in = omega arith;
-        indexed = λ n l. table.indexed n l ∙ ap (λ (ms : List ℕ). place_of ms n) (sym same);
-        rising = drop-append-le fixed ns more fixed_in ∙ ap (λ (ms : List ℕ). ms ++ more) table.rising ∙ range_append heap (length ns - fixed) count ∙ ap (range_with_len heap) heap_len;
-        apart = λ n above below. ap (λ (ms : List ℕ). place_of ms n) same ∙ table.apart n above below;
-        bounded = omega arith;
+        listed = ap (λ (ms : List ℕ). ms ++ more) table.listed ∙ append_assoc front old more ∙ ap (λ (ms : List ℕ). front ++ ms) (range_append heap (length ns - length front) count)
+            ∙ ap (λ (n : ℕ). front ++ range_with_len heap n) heap_len;
+        apart = table.apart;
+        bounded = omega (arith, heap_len, bounded);
       }
 
-  pub table_shrunk : (k : ℕ) → fixed ≤ k → k ≤ length ns → IsPageTable found (take k ns) fixed heap
+  pub table_shrunk : (k : ℕ) → length front ≤ k → k ≤ length ns → IsPageTable front (take k ns) heap
   table_shrunk k above below =
-      let long : length (take k ns) ≡ k = length-take-le k ns below in
-      let same : take fixed (take k ns) ≡ take fixed ns = take-take fixed k ns above in
-      let bounded : heap + (length ns - fixed) ≤ room_pages = table.bounded in
+      let old : List ℕ = range_with_len heap (length ns - length front) in
+      let heap_len : k - length front ≡ length (take k ns) - length front = omega (arith, length-take-le k ns below) in
       record {
-        fixed_in = omega arith;
-        indexed = λ n l. table.indexed n l ∙ ap (λ (ms : List ℕ). place_of ms n) (sym same);
-        rising = rw long (subst (λ (x : ℕ). drop fixed (take x ns) ≡ range_with_len heap (k - fixed)) (let e : fixed + (k - fixed) ≡ k = omega arith in e)
-            (drop-take fixed (k - fixed) ns ∙ ap (take (k - fixed)) table.rising ∙ take_range heap (k - fixed) (length ns - fixed) (omega arith)));
-        apart = λ n above below. ap (λ (ms : List ℕ). place_of ms n) same ∙ table.apart n above below;
-        bounded = omega arith;
+        listed = ap (take k) table.listed ∙ take_behind k front old above ∙ ap (λ (ms : List ℕ). front ++ ms) (take_range heap (k - length front) (length ns - length front) (omega arith))
+            ∙ ap (λ (n : ℕ). front ++ range_with_len heap n) heap_len;
+        apart = table.apart;
+        bounded = omega (arith, heap_len, table.bounded);
       }
 
 -- bytes that are all 0
@@ -189,34 +199,34 @@ pub zero_pages_more : (first k : ℕ) → zero_pages first (k + 1) ≡ zero_page
 zero_pages_more first k = ap (map (zero_page zero_cell.rights)) (sym (range_append first k 1)) ∙ map-append (zero_page zero_cell.rights) (range_with_len first k) (range_with_len (first + k) 1)
 
 -- a table whose heap is empty
-pub table_new : (found : ℕ → Option ℕ) (ns : List ℕ) (fixed heap : ℕ) → fixed ≡ length ns → ((n : ℕ) → n < 2 ^ 20 → found n ≡ place_of ns n) → ((n : ℕ) → heap ≤ n → n < room_pages → place_of ns n ≡ None) → heap ≤ room_pages → IsPageTable found ns fixed heap
-table_new found ns fixed heap all finds apart low =
-    let same : take fixed ns ≡ ns = take_all fixed ns (omega (arith, all)) in
-    let none : length ns - fixed ≡ 0 = omega (arith, all) in
+pub table_new : (front ns : List ℕ) (heap : ℕ) → ns ≡ front → ((n : ℕ) → heap ≤ n → n < room_pages → place_of ns n ≡ None) → heap ≤ room_pages → IsPageTable front ns heap
+table_new front ns heap is apart low =
+    let none : length ns - length front ≡ 0 = omega (arith, ap (λ (ms : List ℕ). length ms) is) in
     record {
-      fixed_in = omega (arith, all);
-      indexed = λ n l. finds n l ∙ ap (λ (ms : List ℕ). place_of ms n) (sym same);
-      rising = drop_of_length-le ns (omega (arith, all)) ∙ ap (range_with_len heap) (sym none);
-      apart = λ n above below. ap (λ (ms : List ℕ). place_of ms n) same ∙ apart n above below;
+      listed = is ∙ sym (append-nil front) ∙ ap (λ (n : ℕ). front ++ range_with_len heap n) (sym none);
+      apart = λ n above below. ap (λ (ms : List ℕ). place_of ms n) (sym is) ∙ apart n above below;
       bounded = omega (arith, none, low);
     }
 
 -- the table with such pages at its end
-pub table_with_zeros : (found : ℕ → Option ℕ) (ps now : List GuestPage) (fixed heap count : ℕ) → now ≡ ps ++ zero_pages (heap + (length (numbers ps) - fixed)) count → IsPageTable found (numbers ps) fixed heap
-    → heap + (length (numbers ps) - fixed) + count ≤ room_pages → IsPageTable found (numbers now) fixed heap
-table_with_zeros found ps now fixed heap count is table bounded =
-    let all : numbers now ≡ numbers ps ++ range_with_len (heap + (length (numbers ps) - fixed)) count =
-    ap numbers is ∙ numbers_append ps (zero_pages (heap + (length (numbers ps) - fixed)) count) ∙ ap (λ (ns : List ℕ). numbers ps ++ ns) (zero_pages_are (heap + (length (numbers ps) - fixed)) count).numbered in
-    subst (λ (ns : List ℕ). IsPageTable found ns fixed heap) (sym all) (table_grown found (numbers ps) fixed heap table count bounded)
+pub table_with_zeros : (front : List ℕ) (ps now : List GuestPage) (heap count : ℕ) → now ≡ ps ++ zero_pages (heap + (length (numbers ps) - length front)) count → IsPageTable front (numbers ps) heap
+    → heap + (length (numbers ps) - length front) + count ≤ room_pages → IsPageTable front (numbers now) heap
+table_with_zeros front ps now heap count is table bounded =
+    let end : ℕ = heap + (length (numbers ps) - length front) in
+    let all : numbers now ≡ numbers ps ++ range_with_len end count = ap numbers is ∙ numbers_append ps (zero_pages end count) ∙ ap (λ (ns : List ℕ). numbers ps ++ ns) (zero_pages_are end count).numbered in
+    subst (λ (ns : List ℕ). IsPageTable front ns heap) (sym all) (table_grown front (numbers ps) heap table count bounded)
 
 -- the pages of a table but for its last
-pub cells_shrunk : (found : ℕ → Option ℕ) (ps : List GuestPage) (fixed heap k : ℕ) → IsPageTable found (numbers ps) fixed heap → fixed ≤ k → k ≤ length ps
-    → mapped_cells (take k ps) ≡ without (mapped_cells ps) (page_size * (heap + (k - fixed))) (page_size * (heap + (length ps - fixed)))
-cells_shrunk found ps fixed heap k table above below =
+pub cells_shrunk : (front : List ℕ) (ps : List GuestPage) (heap k : ℕ) → IsPageTable front (numbers ps) heap → length front ≤ k → k ≤ length ps
+    → mapped_cells (take k ps) ≡ without (mapped_cells ps) (page_size * (heap + (k - length front))) (page_size * (heap + (length ps - length front)))
+cells_shrunk front ps heap k table above below =
     same_map nat_cmp_total nat_cmp-IsAntisymmetric _ _ (by_page (λ q. finmap.get (mapped_cells (take k ps)) q ≡ finmap.get (without (mapped_cells ps) from to) q) each)
   where
     ns : List ℕ
     ns = numbers ps
+
+    fixed : ℕ
+    fixed = length front
 
     long : length ns ≡ length ps
     long = length-map ps (λ (p : GuestPage). p.number)
@@ -233,19 +243,18 @@ cells_shrunk found ps fixed heap k table above below =
     kept_long : length (take k ns) ≡ k
     kept_long = length-take-le k ns (omega (arith, long))
 
-    smaller : IsPageTable found (take k ns) fixed heap
-    smaller = table_shrunk found ns fixed heap table k above (omega (arith, long))
+    smaller : IsPageTable front (take k ns) heap
+    smaller = table_shrunk front ns heap table k above (omega (arith, long))
 
     left : drop k ns ≡ range_with_len (heap + (k - fixed)) (length ns - k)
     left =
-        let at : fixed + (k - fixed) ≡ k = omega arith in
         let rest : length ns - fixed - (k - fixed) ≡ length ns - k = omega arith in
-        ap (λ (x : ℕ). drop x ns) (sym at) ∙ sym (drop-drop (k - fixed) fixed ns) ∙ ap (drop (k - fixed)) table.rising ∙ drop_range heap (k - fixed) (length ns - fixed) ∙ ap (range_with_len (heap + (k - fixed))) rest
+        ap (drop k) table.listed ∙ drop_behind k front (range_with_len heap (length ns - fixed)) above ∙ drop_range heap (k - fixed) (length ns - fixed) ∙ ap (range_with_len (heap + (k - fixed))) rest
 
     unmapped : (n o : ℕ) → o < page_size → heap + (k - fixed) ≤ n → n < heap + (length ps - fixed) → finmap.get (mapped_cells (take k ps)) (page_size * n + o) ≡ finmap.get (without (mapped_cells ps) from to) (page_size * n + o)
     unmapped n o l past within =
         let bounded : heap + (length ns - fixed) ≤ room_pages = table.bounded in
-        let nowhere : place_of (take k ns) n ≡ None = place_of_above found (take k ns) fixed heap smaller n (omega (arith, kept_long)) (omega (arith, long)) in
+        let nowhere : place_of (take k ns) n ≡ None = place_of_above front (take k ns) heap smaller n (omega (arith, kept_long)) (omega (arith, long)) in
         get_cells_none (take k ps) n o l (ap (λ (ms : List ℕ). place_of ms n) kept ∙ nowhere) ∙ sym (get_without_in (mapped_cells ps) from to (page_size * n + o) (omega arith) (omega arith))
 
     stays : (n o : ℕ) → o < page_size → (n < heap + (k - fixed)) ⊎ (heap + (length ps - fixed) ≤ n) → finmap.get (mapped_cells (take k ps)) (page_size * n + o) ≡ finmap.get (without (mapped_cells ps) from to) (page_size * n + o)
@@ -272,13 +281,17 @@ cells_shrunk found ps fixed heap k table above below =
         (λ (above : heap + (k - fixed) ≤ n). ⊎_elim (λ (within : n < heap + (length ps - fixed)). unmapped n o l above within) (λ (past : heap + (length ps - fixed) ≤ n). stays n o l (inr past)) (cases_lt n (heap + (length ps - fixed))))
         (cases_lt n (heap + (k - fixed)))
 
+-- the numbers of an image's pages
+pub numbers_of_image : (ps : List Page) → numbers (map of_image ps) ≡ page_numbers ps
+numbers_of_image ps = map-map (λ (p : GuestPage). p.number) of_image ps
+
 -- the pages of an image lie below its first break
 pub below_start : (ps : List Page) (start n : ℕ) → All (λ p. page_size * p.number + page_size ≤ start) ps → start ≤ page_size * n → place_of (numbers (map of_image ps)) n ≡ None
 below_start ps start n low above =
     ⊎_elim (λ none. none)
     (λ (some : (i : ℕ) × (place_of (numbers (map of_image ps)) n ≡ Some i)).
     let found : (some.0 < length (numbers (map of_image ps))) × (get_or (numbers (map of_image ps)) some.0 0 ≡ n) = place_of_in (numbers (map of_image ps)) n some.0 some.1 in
-    let same : numbers (map of_image ps) ≡ map (λ (p : Page). p.number) ps = map-map (λ (p : GuestPage). p.number) of_image ps in
+    let same : numbers (map of_image ps) ≡ page_numbers ps = numbers_of_image ps in
     let within : some.0 < length ps = omega (arith, found.0, ap (λ (ns : List ℕ). length ns) same, length-map ps (λ (p : Page). p.number)) in
     let d : Page = an_image_page ps (omega arith) in
     let number : get_or (numbers (map of_image ps)) some.0 0 ≡ (get_or ps some.0 d).number = ap (λ (ns : List ℕ). get_or ns some.0 0) same ∙ get_or-map (λ (p : Page). p.number) ps some.0 d 0 within in

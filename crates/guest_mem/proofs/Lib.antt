@@ -3,3 +3,4 @@ pub mod CellLemmas
 pub mod HeapLemmas
 pub mod PageLemmas
 pub mod SlotLemmas
+pub mod TableLemmas

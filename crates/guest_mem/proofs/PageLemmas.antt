@@ -1,8 +1,7 @@
 -- The cells that a list of pages stands for.
-use Rattle.std.proofs.Common.{◌≡◌, ℕ, zero, suc, ◌+◌, ◌-◌, ◌*◌, ◌/◌, ◌%◌, ◌^◌, ◌<◌, ◌≤◌, ◌≢◌, ◌⊎◌, inl, inr, Bool, true, false, cond, List, [], ◌∷◌, ◌++◌, length, get_or, set, take, drop, Option, Some, None, refl, sym, ap, subst, ◌∙◌, arith, ⊎_elim, eq-eqb, eqb}
-use Rattle.std.proofs.lemmas.List.{map-set, set-get_or, get_or-set_same, get_or-set_other, length-map, take-append-drop, length-take-le, length-drop, get_or-take, get_or-drop, get_or-map, take_more, map-append}
+use Rattle.std.proofs.Common.{◌≡◌, ℕ, zero, suc, ◌+◌, ◌-◌, ◌*◌, ◌/◌, ◌%◌, ◌^◌, ◌<◌, ◌≤◌, ◌≢◌, ◌⊎◌, inl, inr, Bool, true, false, cond, List, [], ◌∷◌, ◌++◌, length, get_or, set, take, drop, Option, Some, None, refl, sym, ap, subst, ◌∙◌, arith, ⊎_elim, eq-eqb}
+use Rattle.std.proofs.lemmas.List.{map-set, set-get_or, get_or-set_same, get_or-set_other, length-map, length-take-le, length-drop, get_or-take, get_or-drop, get_or-map}
 use Rattle.std.proofs.lemmas.Bool.{ne_eqb, cases_eq, cases_lt}
-use Rattle.std.specs.Option.{option_map}
 use Rattle.std.specs.List.{flat_map, range_with_len}
 use Rattle.std.specs.FinMap as map
 use Rattle.std.specs.FinMap.{get-from_entries, same_map, nat_cmp-IsAntisymmetric}
@@ -11,13 +10,12 @@ use Rattle.std.specs.Cmp.{nat_cmp_total, unsigned_tied}
 use Rattle.std.specs.Ordering.{nat_cmp, eq_by_cmp}
 use Rattle.elf_load.specs.Cells.{Cell, Cells}
 use Rattle.elf_load.specs.declared.rights.Rights.{Rights}
+use Rattle.elf_load.specs.Places.{place_of}
 use Rattle.elf_load.specs.Room.{page_size}
+use Rattle.elf_load.proofs.Places.{told, place_of_step, place_of_in, place_of_append_some, place_of_append_none, place_of_append_nowhere, place_of_range_in, place_of_range_out}
 use Rattle.guest_mem.specs.declared.right.Right.{Right}
-use Rattle.guest_mem.specs.Break.{room_pages}
 use Rattle.guest_mem.specs.Memory.{permits, permitted, byte_for, bytes_for, put_all}
-use Rattle.guest_mem.specs.declared.entry.Entry.{Entry}
-use Rattle.guest_mem.specs.inside.Slots.{entry_numbers}
-use Rattle.guest_mem.specs.inside.Pages.{GuestPage, cell_in, cells_within, mapped_cells, numbers, place_of, Rewrites, AreKnown, IsPageTable}
+use Rattle.guest_mem.specs.inside.Pages.{GuestPage, cell_in, cells_within, mapped_cells, numbers, Rewrites, IsPageTable}
 use Rattle.guest_mem.proofs.CellLemmas.{get_put_all_in, get_put_all_out, get_put_all_none, bytes_for_all, bytes_for_none}
 
 abbrev pub Entries : Type 0
@@ -75,46 +73,6 @@ look_page_out : (p : GuestPage) (n o : ℕ) → o < page_size → p.number ≢ n
 look_page_out p n o l apart =
     cells_within_out p 0 page_size (page_size * n + o)
     (⊎_elim (λ (below : n < p.number). inl (omega arith)) (λ (above : p.number < n). inr (omega arith)) (apart_sides n p.number (λ same. apart (sym same))))
-
--- what an option holds
-pub told : {A : Type 0} (o : Option A) → (o ≡ None) ⊎ ((x : A) × (o ≡ Some x))
-told None = inl refl
-told (Some x) = inr (x, refl)
-
--- one step of the search for a place
-place_of_same : (m : ℕ) (ms : List ℕ) (n : ℕ) → m ≡ n → place_of (m ∷ ms) n ≡ Some 0
-place_of_same m ms n same = ap (λ (b : Bool). cond b (Some 0) (option_map (λ i. i + 1) (place_of ms n))) (eq-eqb m n same)
-
-place_of_other : (m : ℕ) (ms : List ℕ) (n : ℕ) → m ≢ n → place_of (m ∷ ms) n ≡ option_map (λ i. i + 1) (place_of ms n)
-place_of_other m ms n apart = ap (λ (b : Bool). cond b (Some 0) (option_map (λ i. i + 1) (place_of ms n))) (ne_eqb m n apart)
-
-place_of_later : (m : ℕ) (ms : List ℕ) (n j : ℕ) → m ≢ n → place_of ms n ≡ Some j → place_of (m ∷ ms) n ≡ Some (j + 1)
-place_of_later m ms n j apart is = place_of_other m ms n apart ∙ ap (option_map (λ i. i + 1)) is
-
-pub place_of_nowhere : (m : ℕ) (ms : List ℕ) (n : ℕ) → m ≢ n → place_of ms n ≡ None → place_of (m ∷ ms) n ≡ None
-place_of_nowhere m ms n apart is = place_of_other m ms n apart ∙ ap (option_map (λ i. i + 1)) is
-
--- where the first of a list stands, and where a later one does
-place_of_step : (m : ℕ) (ms : List ℕ) (n : ℕ) → ((m ≡ n) × (place_of (m ∷ ms) n ≡ Some 0)) ⊎ ((m ≢ n) × ((place_of ms n ≡ None) × (place_of (m ∷ ms) n ≡ None)) ⊎ ((j : ℕ) × (m ≢ n) × (place_of ms n ≡ Some j) × (place_of (m ∷ ms) n ≡ Some (j + 1))))
-place_of_step m ms n =
-    ⊎_elim (λ (same : m ≡ n). inl (same, place_of_same m ms n same))
-    (λ (apart : m ≢ n). inr (⊎_elim (λ none. inl (apart, (none, place_of_nowhere m ms n apart none)))
-    (λ some. inr (some.0, apart, some.1, place_of_later m ms n some.0 apart some.1)) (told (place_of ms n))))
-    (cases_eq m n)
-
--- what stands at a place that is found
-pub place_of_in : (ns : List ℕ) (n i : ℕ) → place_of ns n ≡ Some i → (i < length ns) × (get_or ns i 0 ≡ n)
-place_of_in [] n i is = cc
-place_of_in (m ∷ ms) n i is =
-    elim (place_of_step m ms n) [
-      | inl first ↦ let at : 0 ≡ i = cc in subst (λ (x : ℕ). (x < length (m ∷ ms)) × (get_or (m ∷ ms) x 0 ≡ n)) at (omega arith, first.0)
-      | inr later ↦ elim later [
-        | inl nowhere ↦ cc
-        | inr there ↦ let at : suc there.0 ≡ i = (let e : there.0 + 1 ≡ i = cc in omega arith) in
-            let h : (there.0 < length ms) × (get_or ms there.0 0 ≡ n) = place_of_in ms n there.0 there.2 in
-            subst (λ (x : ℕ). (x < length (m ∷ ms)) × (get_or (m ∷ ms) x 0 ≡ n)) at (omega (arith, h.0), h.1)
-      ]
-    ]
 
 -- the cells of all pages
 abbrev pub entries_of : GuestPage → Entries
@@ -239,79 +197,21 @@ cells_set ps i n o bytes new d is numbered writes = same_map nat_cmp_total nat_c
         (cases_eq j i))
         (told (place_of (numbers ps) m))
 
--- a list of page numbers behind another
-pub place_of_append_some : (ms ns : List ℕ) (n i : ℕ) → place_of ms n ≡ Some i → place_of (ms ++ ns) n ≡ Some i
-place_of_append_some [] ns n i is = cc
-place_of_append_some (m ∷ ms) ns n i is =
-    elim (place_of_step m ms n) [
-      | inl first ↦ place_of_same m (ms ++ ns) n first.0 ∙ (let e : ◌≡◌ {A = Option ℕ} (Some 0) (Some i) = cc in e)
-      | inr later ↦ elim later [
-        | inl nowhere ↦ cc
-        | inr there ↦ place_of_later m (ms ++ ns) n there.0 there.1 (place_of_append_some ms ns n there.0 there.2) ∙ (let e : ◌≡◌ {A = Option ℕ} (Some (there.0 + 1)) (Some i) = cc in e)
-      ]
-    ]
-
-pub place_of_append_none : (ms ns : List ℕ) (n j : ℕ) → place_of ms n ≡ None → place_of ns n ≡ Some j → place_of (ms ++ ns) n ≡ Some (length ms + j)
-place_of_append_none [] ns n j none is = is ∙ ap (λ (x : ℕ). Some x) (let e : j ≡ 0 + j = omega arith in e)
-place_of_append_none (m ∷ ms) ns n j none is =
-    elim (place_of_step m ms n) [
-      | inl first ↦ cc
-      | inr later ↦ elim later [
-        | inl nowhere ↦ place_of_later m (ms ++ ns) n (length ms + j) nowhere.0 (place_of_append_none ms ns n j nowhere.1.0 is) ∙ ap (λ (x : ℕ). Some x) (let e : length ms + j + 1 ≡ suc (length ms) + j = omega arith in e)
-        | inr there ↦ cc
-      ]
-    ]
-
-pub place_of_append_nowhere : (ms ns : List ℕ) (n : ℕ) → place_of ms n ≡ None → place_of ns n ≡ None → place_of (ms ++ ns) n ≡ None
-place_of_append_nowhere [] ns n none is = is
-place_of_append_nowhere (m ∷ ms) ns n none is =
-    elim (place_of_step m ms n) [
-      | inl first ↦ cc
-      | inr later ↦ elim later [
-        | inl nowhere ↦ place_of_nowhere m (ms ++ ns) n nowhere.0 (place_of_append_nowhere ms ns n nowhere.1.0 is)
-        | inr there ↦ cc
-      ]
-    ]
-
--- numbers that rise
-pub place_of_range_in : (a count k : ℕ) → k < count → place_of (range_with_len a count) (a + k) ≡ Some k
-place_of_range_in a zero k l = absurd (omega arith)
-place_of_range_in a (suc count) zero l = place_of_same a (range_with_len (a + 1) count) (a + 0) (omega arith)
-place_of_range_in a (suc count) (suc k) l =
-    let rest : place_of (range_with_len (a + 1) count) (a + suc k) ≡ Some k =
-    subst (λ (x : ℕ). place_of (range_with_len (a + 1) count) x ≡ Some k) (let e : a + 1 + k ≡ a + suc k = omega arith in e) (place_of_range_in (a + 1) count k (omega arith)) in
-    place_of_later a (range_with_len (a + 1) count) (a + suc k) k (λ same. omega arith) rest ∙ ap (λ (x : ℕ). Some x) (let e : k + 1 ≡ suc k = omega arith in e)
-
-pub place_of_range_out : (a count n : ℕ) → (n < a) ⊎ (a + count ≤ n) → place_of (range_with_len a count) n ≡ None
-place_of_range_out a zero n out = refl
-place_of_range_out a (suc count) n out =
-    let apart : a ≢ n = ⊎_elim (λ l same. omega arith) (λ l same. omega arith) out in
-    let later : (n < a + 1) ⊎ (a + 1 + count ≤ n) = ⊎_elim (λ l. inl (omega arith)) (λ l. inr (omega arith)) out in
-    place_of_nowhere a (range_with_len (a + 1) count) n apart (place_of_range_out (a + 1) count n later)
-
 -- where a table finds a page
-module _ (found : ℕ → Option ℕ) (ns : List ℕ) (fixed heap : ℕ) (table : IsPageTable found ns fixed heap) where
-  split : take fixed ns ++ drop fixed ns ≡ ns
-  split = take-append-drop fixed ns
+module _ (front ns : List ℕ) (heap : ℕ) (table : IsPageTable front ns heap) where
+  abbrev more : List ℕ
+  more = range_with_len heap (length ns - length front)
 
-  length_fixed : length (take fixed ns) ≡ fixed
-  length_fixed = length-take-le fixed ns table.fixed_in
-
-  pub place_of_heap : (n k : ℕ) → n ≡ heap + k → k < length ns - fixed → place_of ns n ≡ Some (fixed + k)
+  pub place_of_heap : (n k : ℕ) → n ≡ heap + k → k < length ns - length front → place_of ns n ≡ Some (length front + k)
   place_of_heap n k at l =
-      let bounded : heap + (length ns - fixed) ≤ room_pages = table.bounded in
-      let behind : place_of (drop fixed ns) n ≡ Some k =
-      ap (λ (ms : List ℕ). place_of ms n) table.rising ∙ subst (λ (x : ℕ). place_of (range_with_len heap (length ns - fixed)) x ≡ Some k) (sym at) (place_of_range_in heap (length ns - fixed) k l) in
-      subst (λ (ms : List ℕ). place_of ms n ≡ Some (fixed + k)) split
-      (place_of_append_none (take fixed ns) (drop fixed ns) n k (table.apart n (omega arith) (omega arith)) behind ∙ ap (λ (x : ℕ). Some (x + k)) length_fixed)
+      let behind : place_of more n ≡ Some k = subst (λ (x : ℕ). place_of more x ≡ Some k) (sym at) (place_of_range_in heap (length ns - length front) k l) in
+      ap (λ (ms : List ℕ). place_of ms n) table.listed ∙ place_of_append_none front more n k (table.apart n (omega arith) (omega (arith, table.bounded))) behind
 
-  pub place_of_fixed : (n : ℕ) → (n < heap) ⊎ (heap + (length ns - fixed) ≤ n) → n < 2 ^ 20 → place_of ns n ≡ found n
-  place_of_fixed n out l =
-      let behind : place_of (drop fixed ns) n ≡ None = ap (λ (ms : List ℕ). place_of ms n) table.rising ∙ place_of_range_out heap (length ns - fixed) n out in
-      subst (λ (ms : List ℕ). place_of ms n ≡ found n) split
-      (⊎_elim (λ (none : place_of (take fixed ns) n ≡ None). place_of_append_nowhere (take fixed ns) (drop fixed ns) n none behind ∙ sym none ∙ sym (table.indexed n l))
-      (λ (some : (j : ℕ) × (place_of (take fixed ns) n ≡ Some j)). place_of_append_some (take fixed ns) (drop fixed ns) n some.0 some.1 ∙ sym some.1 ∙ sym (table.indexed n l))
-      (told (place_of (take fixed ns) n)))
+  pub place_of_fixed : (n i : ℕ) → place_of front n ≡ Some i → place_of ns n ≡ Some i
+  place_of_fixed n i is = ap (λ (ms : List ℕ). place_of ms n) table.listed ∙ place_of_append_some front more n i is
+
+  pub place_of_none : (n : ℕ) → (n < heap) ⊎ (heap + (length ns - length front) ≤ n) → place_of front n ≡ None → place_of ns n ≡ None
+  place_of_none n out none = ap (λ (ms : List ℕ). place_of ms n) table.listed ∙ place_of_append_nowhere front more n none (place_of_range_out heap (length ns - length front) n out)
 
 -- what an access asks of the page that holds its address
 pub byte_for_some : (right : Right) (ps : List GuestPage) (n i o : ℕ) (d : GuestPage) → o < page_size → place_of (numbers ps) n ≡ Some i → permits right (get_or ps i d).rights ≡ true → byte_for right (mapped_cells ps) (page_size * n + o) ≡ Some (get_or (get_or ps i d).bytes o 0)
@@ -366,53 +266,3 @@ pub byte_for_past : (right : Right) (ps : List GuestPage) (a : ℕ) → ((n : �
 byte_for_past right ps a low l =
     subst (λ (x : ℕ). byte_for right (mapped_cells ps) x ≡ None) (let e : page_size * (a / page_size) + a % page_size ≡ a = omega arith in e)
     (byte_for_none right ps (a / page_size) (a % page_size) (omega arith) (low (a / page_size) (omega arith)))
-
--- one page number behind others
-one_other : (m n : ℕ) → n ≢ m → place_of (m ∷ []) n ≡ None
-one_other m n ne = place_of_nowhere m [] n (λ same. ne (sym same)) refl
-
-pub pushed_known : (ms : List ℕ) (m j : ℕ) → place_of ms m ≡ Some j → (n : ℕ) → place_of (ms ++ m ∷ []) n ≡ place_of ms n
-pushed_known ms m j is n =
-    ⊎_elim (λ (none : place_of ms n ≡ None).
-    let ne : n ≢ m = λ (same : n ≡ m). (let at : place_of ms m ≡ None = subst (λ (x : ℕ). place_of ms x ≡ None) same none in cc) in
-    place_of_append_nowhere ms (m ∷ []) n none (one_other m n ne) ∙ sym none)
-    (λ (some : (k : ℕ) × (place_of ms n ≡ Some k)). place_of_append_some ms (m ∷ []) n some.0 some.1 ∙ sym some.1)
-    (told (place_of ms n))
-
-pub pushed_new : (ms : List ℕ) (m : ℕ) → place_of ms m ≡ None → (n : ℕ) → place_of (ms ++ m ∷ []) n ≡ cond (eqb n m) (Some (length ms)) (place_of ms n)
-pushed_new ms m none n =
-    ⊎_elim (λ (same : n ≡ m).
-    place_of_append_none ms (m ∷ []) n 0 (subst (λ (x : ℕ). place_of ms x ≡ None) (sym same) none) (place_of_same m [] n (sym same))
-    ∙ ap (λ (x : ℕ). Some x) (let e : length ms + 0 ≡ length ms = omega arith in e) ∙ sym (ap (λ (b : Bool). cond b (Some (length ms)) (place_of ms n)) (eq-eqb n m same)))
-    (λ (ne : n ≢ m). behind ne ∙ sym (ap (λ (b : Bool). cond b (Some (length ms)) (place_of ms n)) (ne_eqb n m ne)))
-    (cases_eq n m)
-  where
-    behind : n ≢ m → place_of (ms ++ m ∷ []) n ≡ place_of ms n
-    behind ne =
-        ⊎_elim (λ (nowhere : place_of ms n ≡ None). place_of_append_nowhere ms (m ∷ []) n nowhere (one_other m n ne) ∙ sym nowhere)
-        (λ (some : (k : ℕ) × (place_of ms n ≡ Some k)). place_of_append_some ms (m ∷ []) n some.0 some.1 ∙ sym some.1)
-        (told (place_of ms n))
-
-pub numbers-more : (es : List Entry) (i : ℕ) (e : Entry) → i < length es → e ≡ get_or es i e → entry_numbers (take (i + 1) es) ≡ entry_numbers (take i es) ++ e.number ∷ []
-numbers-more es i e l is =
-    ap entry_numbers (take_more es i e l) ∙ map-append (λ (x : Entry). x.number) (take i es) (get_or es i e ∷ []) ∙ ap (λ (x : Entry). entry_numbers (take i es) ++ x.number ∷ []) (sym is)
-
-pub length_numbers_so_far : (es : List Entry) (i : ℕ) → i ≤ length es → length (entry_numbers (take i es)) ≡ i
-length_numbers_so_far es i l = length-map (take i es) (λ (x : Entry). x.number) ∙ length-take-le i es l
-
--- a page of a table that is found where it stands is the first with its number
-pub known_place : (found : ℕ → Option ℕ) (ns : List ℕ) (fixed heap known : ℕ) → IsPageTable found ns fixed heap → AreKnown found (take fixed ns) known
-    → (i n : ℕ) → i < known → get_or ns i 0 ≡ n → n < 2 ^ 20 → place_of ns n ≡ Some i
-known_place found ns fixed heap known table are i n below is low =
-    let long : length (take fixed ns) ≡ fixed = length-take-le fixed ns table.fixed_in in
-    let at : get_or (take fixed ns) i 0 ≡ n = get_or-take fixed ns i 0 (omega (arith, are.within)) ∙ is in
-    let among : place_of (take fixed ns) n ≡ Some i = sym (table.indexed n low) ∙ ap found (sym at) ∙ are.where_they_stand i below in
-    subst (λ (ms : List ℕ). place_of ms n ≡ Some i) (take-append-drop fixed ns) (place_of_append_some (take fixed ns) (drop fixed ns) n i among)
-
--- one more page that is found where it stands
-pub known_more : (found : ℕ → Option ℕ) (ns : List ℕ) (known : ℕ) → AreKnown found ns known → known < length ns → found (get_or ns known 0) ≡ Some known → AreKnown found ns (known + 1)
-known_more found ns known are l is = record {
-  within = omega arith;
-  where_they_stand = λ i below. ⊎_elim (λ (less : i < known). are.where_they_stand i less)
-      (λ (above : known ≤ i). let same : known ≡ i = omega arith in subst (λ (x : ℕ). found (get_or ns x 0) ≡ Some x) same is) (cases_lt i known);
-}

@@ -3,23 +3,23 @@ use Rattle.std.proofs.Common.{◌≡◌, ℕ, zero, suc, ◌+◌, ◌-◌, ◌*�
 use Rattle.std.specs.Arc.{arc_value}
 use Rattle.std.specs.List.{range_with_len}
 use Rattle.std.proofs.lemmas.Bool.{cases_eq, cases_lt, lt-ltb, le-ltb}
-use Rattle.std.proofs.lemmas.List.{length-map, length-set, length-take-le, length-drop, length-append, get_or-take, get_or-drop, get_or-map, get_or-set_same, get_or-set_other, get_or_append_left, get_or-append-add, get_or_push, get_or_past, get_or_default, set-get_or, map-set, same_lists, take_more, take_more_set, map-append, take_all, take-map, drop-take, drop-drop, take-take}
+use Rattle.std.proofs.lemmas.List.{length-map, length-set, length-take-le, length-drop, length-append, get_or-take, get_or-drop, get_or-map, get_or-set_same, get_or-set_other, get_or_append_left, get_or-append-add, get_or_push, get_or_past, get_or_default, set-get_or, map-set, same_lists, take_more, take_more_set, map-append, take_all, drop-take, drop-drop, take-take}
 use Rattle.std.proofs.lemmas.List.FromFn.{get_or-range_with_len, length-range_with_len}
 use Rattle.std.proofs.lemmas.Grind.{same_number_lists}
 use Rattle.std.proofs.Math.Seq.{drop-append_seam}
-use Rattle.std.proofs.lemmas.Simd.{map-map}
 use Rattle.elf_load.specs.declared.page.Page.{Page}
 use Rattle.elf_load.specs.declared.rights.Rights.{Rights}
 use Rattle.elf_load.specs.declared.shared.SharedPages.{SharedPages}
+use Rattle.elf_load.specs.Places.{place_of}
 use Rattle.elf_load.specs.Room.{page_size}
+use Rattle.elf_load.proofs.Places.{place_of_nowhere}
 use Rattle.guest_mem.specs.declared.entry.Entry.{Entry}
 use Rattle.guest_mem.specs.declared.pages.Pages.{Pages}
 use Rattle.guest_mem.specs.inside.PageStore.{all_bytes, shown}
 use Rattle.guest_mem.specs.Break.{max_pages}
-use Rattle.guest_mem.specs.inside.Pages.{GuestPage, IsRewritten, Rewrites, numbers, place_of, of_image, zeros, zero_page}
-use Rattle.guest_mem.specs.inside.Slots.{AreSlots, page_of, shared_bytes, slot_bytes, slots, taken, entry_numbers}
+use Rattle.guest_mem.specs.inside.Pages.{GuestPage, IsRewritten, Rewrites, numbers, of_image, zeros, zero_page}
+use Rattle.guest_mem.specs.inside.Slots.{AreSlots, page_of, shared_bytes, slot_bytes, slots, taken}
 use Rattle.guest_mem.proofs.HeapLemmas.{get_or_zeros, length_zeros}
-use Rattle.guest_mem.proofs.PageLemmas.{place_of_nowhere}
 
 -- how many slots are taken
 one_more : (b : Bool) (n m : ℕ) → n ≤ m → cond b n (n + 1) ≤ m + 1
@@ -487,9 +487,6 @@ get_shown p i d e l = get_or-take p.count (map (page_of (all_bytes p)) p.entries
 
 pub slot_set : (es : List Entry) (i : ℕ) (e : Entry) → i < length es → get_or (slots (set es i e)) i 0 ≡ e.slot
 slot_set es i e l = ap (λ (ss : List ℕ). get_or ss i 0) (map-set (λ (x : Entry). x.slot) es i e) ∙ get_or-set_same (slots es) i e.slot 0 (omega (arith, l, length-map es (λ (x : Entry). x.slot)))
-
-pub numbers_entries : (p : Pages) → numbers (shown p) ≡ entry_numbers (take p.count p.entries.items)
-numbers_entries p = ap numbers (take-map (page_of (all_bytes p)) p.count p.entries.items) ∙ map-map (λ (g : GuestPage). g.number) (page_of (all_bytes p)) (take p.count p.entries.items)
 
 -- the shared slots: zeros, and the pages of the image
 whole_page : (p : Page) → length p.bytes.items ≡ page_size

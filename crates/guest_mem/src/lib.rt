@@ -5,7 +5,6 @@ mod bad;
 mod code;
 mod entry;
 mod hint;
-mod index;
 mod listing;
 mod mem;
 mod pages;

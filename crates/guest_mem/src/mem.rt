@@ -7,7 +7,7 @@ ghost use Rattle.guest_mem.specs.Opening.{opening};
 
 use crate::hint::FetchHint;
 use crate::pages::Pages;
-use crate::table::PageTable;
+use crate::table::{PageTable, STACK_FIRST, STACK_PAGES};
 use crate::{Bad, Right};
 use elf_load::Image;
 use sim_base::NoMemory;
@@ -15,11 +15,6 @@ use std::alloc::Global;
 use std::marker::Model;
 
 const PAGE_SIZE: u32 = 4096;
-
-/// The number of the first page of the stack, which begins at 0xBFF00000, and how many it has.
-const STACK_FIRST: u32 = 0xBFF00;
-
-const STACK_PAGES: u32 = 256;
 
 /// The number of the page at 0xBF000000, where the heap ends at the latest.
 const HEAP_LIMIT: u32 = 0xBF000;
@@ -63,9 +58,8 @@ impl Mem {
         let mut pages = Pages::of_image(alloc, shared, STACK_PAGES as usize)?;
         pages.push_zeros(STACK_FIRST, STACK_PAGES);
         let start = image.start();
-        let table = PageTable::new(alloc, pages, pages_to(start))?;
         Ok(Mem {
-            table,
+            table: PageTable::new(pages, pages_to(start)),
             start,
             end: start,
         })

@@ -23,7 +23,7 @@ const ZEROS: u16 = 0;
 /// `count` is of a page that was unmapped, and its slot is the next page's at its place.
 #[derive(Drop)]
 pub(crate) struct Pages {
-    shared: Arc<SharedPages, Global>,
+    pub shared: Arc<SharedPages, Global>,
     first_own: usize,
     entries: Vec<Entry>,
     count: usize,
@@ -44,6 +44,7 @@ impl Pages {
         requires few { vec_len (arc_value shared).pages ≤ max_program_pages }
         requires room { vec_len (arc_value shared).pages + more ≤ max_pages }
         ensures pages { IfOk result (λ pages. shown pages ≡ map of_image (arc_value shared).pages.items) }
+        ensures shared { IfOk result (λ pages. arc_value pages.shared ≡ arc_value shared) }
         ensures count { IfOk result (λ pages. pages.count ≡ vec_len (arc_value shared).pages) }
         ensures room { IfOk result (λ pages. HasRoom pages (vec_len (arc_value shared).pages + more)) }
     {
@@ -67,13 +68,6 @@ impl Pages {
         self.count
     }
 
-    /// The pages by place.
-    pub fn entries(&self) -> &[Entry]
-        ensures { result.now ≡ take self.now.count self.now.entries.items }
-    {
-        &self.entries[..self.count]
-    }
-
     /// The rights to a page.
     #[inline]
     pub fn rights(&self, place: usize) -> Rights
@@ -81,15 +75,6 @@ impl Pages {
         ensures { (d : GuestPage) → result ≡ (slice_index_or (shown self.now) place d).rights }
     {
         self.entries[place].rights
-    }
-
-    /// A page's number.
-    #[inline]
-    pub fn number(&self, place: usize) -> u32
-        requires { place < self.now.count }
-        ensures { (d : GuestPage) → result ≡ (slice_index_or (shown self.now) place d).number }
-    {
-        self.entries[place].number
     }
 
     /// The `len` bytes of a page from an offset on.
@@ -116,6 +101,7 @@ impl Pages {
         requires in_page { offset + length part.now ≤ page_size }
         ensures written { IsRewritten (shown self.old) (shown self.new) place offset part.now }
         ensures count { self.new.count ≡ self.old.count }
+        ensures shared { arc_value self.new.shared ≡ arc_value self.old.shared }
         ensures room { (n : ℕ) → HasRoom self.old n → HasRoom self.new n }
     {
         let slot = self.own_slot(place);
@@ -134,6 +120,7 @@ impl Pages {
         ensures own { self.new.first_own ≤ result }
         ensures slot { slice_index (slots self.new.entries.items) place ≡ result }
         ensures count { self.new.count ≡ self.old.count }
+        ensures shared { arc_value self.new.shared ≡ arc_value self.old.shared }
         ensures room { (n : ℕ) → HasRoom self.old n → HasRoom self.new n }
     {
         let slot = self.entries[place].slot as usize;
@@ -154,6 +141,7 @@ impl Pages {
         ensures own { self.new.first_own ≤ result }
         ensures slot { slice_index (slots self.new.entries.items) place ≡ result }
         ensures count { self.new.count ≡ self.old.count }
+        ensures shared { arc_value self.new.shared ≡ arc_value self.old.shared }
         ensures room { (n : ℕ) → HasRoom self.old n → HasRoom self.new n }
     {
         let slot = self.first_own + self.bytes.len() / PAGE_SIZE;
@@ -175,6 +163,7 @@ impl Pages {
         ensures room { OnOk result (HasRoom self.new (self.old.count + more)) }
         ensures same { shown self.new ≡ shown self.old }
         ensures count { self.new.count ≡ self.old.count }
+        ensures shared { arc_value self.new.shared ≡ arc_value self.old.shared }
     {
         let wanted = self.count + more;
         self.entries
@@ -191,6 +180,7 @@ impl Pages {
         requires room { HasRoom self.old (self.old.count + 1) }
         ensures pushed { shown self.new ≡ shown self.old ++ zero_page rights number ∷ [] }
         ensures count { self.new.count ≡ self.old.count + 1 }
+        ensures shared { arc_value self.new.shared ≡ arc_value self.old.shared }
         ensures room { (n : ℕ) → HasRoom self.old n → HasRoom self.new n }
     {
         if self.count < self.entries.len() {
@@ -211,6 +201,7 @@ impl Pages {
         requires behind { self.old.count < vec_len self.old.entries }
         ensures pushed { shown self.new ≡ shown self.old ++ zero_page rights number ∷ [] }
         ensures count { self.new.count ≡ self.old.count + 1 }
+        ensures shared { arc_value self.new.shared ≡ arc_value self.old.shared }
         ensures room { (n : ℕ) → HasRoom self.old n → HasRoom self.new n }
     {
         let slot = self.entries[self.count].slot;
@@ -237,6 +228,7 @@ impl Pages {
         requires shared { slice_index (slots self.old.entries.items) self.old.count < self.old.first_own }
         ensures pushed { shown self.new ≡ shown self.old ++ zero_page rights number ∷ [] }
         ensures count { self.new.count ≡ self.old.count + 1 }
+        ensures shared { arc_value self.new.shared ≡ arc_value self.old.shared }
         ensures room { (n : ℕ) → HasRoom self.old n → HasRoom self.new n }
     {
         self.entries[self.count] = Entry {
@@ -254,6 +246,7 @@ impl Pages {
         requires room { HasRoom self.old (self.old.count + count) }
         ensures pushed { shown self.new ≡ shown self.old ++ zero_pages first count }
         ensures count { self.new.count ≡ self.old.count + count }
+        ensures shared { arc_value self.new.shared ≡ arc_value self.old.shared }
     {
         for number in first..first + count {
             self.push(
@@ -272,6 +265,7 @@ impl Pages {
         requires { count ≤ self.old.count }
         ensures shown { shown self.new ≡ take count (shown self.old) }
         ensures count { self.new.count ≡ count }
+        ensures shared { arc_value self.new.shared ≡ arc_value self.old.shared }
     {
         self.count = count;
     }

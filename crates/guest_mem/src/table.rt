@@ -1,65 +1,57 @@
 //! The pages of a guest.
 
-ghost use Rattle.std.specs.Prelude.{◌≡◌, ℕ, List, ◌+◌, ◌-◌, ◌*◌, ◌/◌, ◌%◌, ◌^◌, ◌<◌, ◌≤◌, Some, None, MatchOption, MatchResult, IfOk, IfSome, IsSome, OnOk, OnErr, is_some, length, min, slice_index_or, take, vec_len};
+ghost use Rattle.std.specs.Prelude.{◌≡◌, ℕ, List, ◌+◌, ◌-◌, ◌*◌, ◌/◌, ◌%◌, ◌^◌, ◌<◌, ◌≤◌, Some, None, MatchOption, MatchResult, IfSome, IsSome, OnOk, OnErr, is_some, length, min};
+ghost use Rattle.std.specs.Arc.{arc_value};
 ghost use Rattle.std.specs.Bool.{OnTrue};
 ghost use Rattle.std.specs.Option.{option_map};
 ghost use Rattle.std.proofs.Props.{props};
 ghost use Rattle.guest_mem.specs.Memory.{IsPage, bytes_for, number, put_all};
 ghost use Rattle.guest_mem.specs.Break.{with_zeros, without, room_pages, max_pages};
-ghost use Rattle.guest_mem.specs.inside.PageIndex.{place_in};
 ghost use Rattle.guest_mem.specs.inside.PageStore.{shown};
-ghost use Rattle.guest_mem.specs.inside.Pages.{AreKnown, IsPageTable, mapped_cells, numbers, place_of};
-ghost use Rattle.guest_mem.specs.inside.Slots.{entry_numbers};
+ghost use Rattle.guest_mem.specs.inside.Pages.{IsPageTable, mapped_cells, numbers};
+ghost use Rattle.guest_mem.specs.inside.Slots.{fixed_numbers};
+ghost use Rattle.elf_load.specs.Places.{page_numbers, place_of};
 ghost use Rattle.elf_load.specs.Room.{page_size};
 
 use crate::Bad;
-use crate::entry::Entry;
 use crate::hint::FetchHint;
-use crate::index::PageIndex;
 use crate::pages::Pages;
 use crate::right::Right;
-use std::alloc::{AllocError, Global};
+use std::alloc::AllocError;
 
 const PAGE_SIZE: u32 = 4096;
 
-/// The pages of the image and of the stack, which an index finds, and behind them those of the heap, whose numbers
-/// rise from `heap` on. Of pages with one number the first counts.
+/// The number of the first page of the stack, which begins at 0xBFF00000, and how many it has.
+pub(crate) const STACK_FIRST: u32 = 0xBFF00;
+
+pub(crate) const STACK_PAGES: u32 = 256;
+
+/// The pages of the image, which its index finds, behind them those of the stack, whose numbers rise from `STACK_FIRST` on,
+/// and behind these those of the heap, whose numbers rise from `heap` on. The first `fixed` pages stay mapped.
 #[derive(Drop)]
 pub(crate) struct PageTable {
     pub pages: Pages,
     pub fixed: usize,
     pub heap: u32,
-    pub index: PageIndex,
-    /// How many pages, from the first on, the index finds at their places: no other page has their numbers.
-    known: usize,
-    ghost sound: { IsPageTable (place_in index) (numbers (shown pages)) fixed heap } by { Prim.hlevel props },
-    ghost known_sound: { AreKnown (place_in index) (take fixed (numbers (shown pages))) known } by { Prim.hlevel props },
+    ghost stay: { fixed ≡ length (fixed_numbers (arc_value pages.shared)) },
+    ghost sound: { IsPageTable (fixed_numbers (arc_value pages.shared)) (numbers (shown pages)) heap } by { Prim.hlevel props },
 }
 
 impl PageTable {
     ghost use Rattle.guest_mem.specs.inside.PageTable.{IsSameShape};
 
-    /// A table of these pages, whose heap begins at page `heap` and is empty.
-    pub fn new(alloc: Global, pages: Pages, heap: u32) -> Result<PageTable, AllocError>
-        requires few { pages.count ≤ max_pages }
+    /// A table of the pages of an image and a stack, whose heap begins at page `heap` and is empty.
+    pub fn new(pages: Pages, heap: u32) -> PageTable
+        requires listed { numbers (shown pages) ≡ fixed_numbers (arc_value pages.shared) }
         requires bounded { heap ≤ room_pages }
         requires apart { (n : ℕ) → heap ≤ n → n < room_pages → place_of (numbers (shown pages)) n ≡ None }
-        ensures pages { IfOk result (λ table. shown table.pages ≡ shown pages) }
-        ensures fixed { IfOk result (λ table. table.fixed ≡ pages.count) }
-        ensures count { IfOk result (λ table. table.pages.count ≡ pages.count) }
-        ensures heap { IfOk result (λ table. table.heap ≡ heap) }
+        ensures pages { shown result.pages ≡ shown pages }
+        ensures fixed { result.fixed ≡ pages.count }
+        ensures count { result.pages.count ≡ pages.count }
+        ensures heap { result.heap ≡ heap }
     {
-        let entries = pages.entries();
-        let index = PageIndex::of(alloc, entries)?;
-        let known = known_places(&index, entries);
         let fixed = pages.len();
-        Ok(PageTable {
-            pages,
-            fixed,
-            heap,
-            index,
-            known,
-        })
+        PageTable { pages, fixed, heap }
     }
 
     /// The place of the first page with this number.
@@ -68,22 +60,26 @@ impl PageTable {
         requires { number < 2 ^ 20 }
         ensures { result ≡ place_of (numbers (shown self.now.pages)) number }
     {
-        match self.index.find(number) {
+        match self.pages.shared.place_of(number) {
             Some(place) => Some(place),
-            None => self.heap_place(number),
+            None => self.place_behind(number),
         }
     }
 
-    /// The place of the heap's page with this number, which no other page has.
+    /// The same, where no page of the image has the number: the page is one of the stack or of the heap.
     #[inline]
-    fn heap_place(&self, number: u32) -> Option<usize>
+    fn place_behind(&self, number: u32) -> Option<usize>
         requires in_range { number < 2 ^ 20 }
-        requires none { place_in self.now.index number ≡ None }
+        requires none { place_of (page_numbers (arc_value self.now.pages.shared).pages.items) number ≡ None }
         ensures { result ≡ place_of (numbers (shown self.now.pages)) number }
     {
-        let after = number.wrapping_sub(self.heap) as usize;
-        if after < self.pages.len() - self.fixed {
-            Some(self.fixed + after)
+        let on_stack = number.wrapping_sub(STACK_FIRST);
+        if on_stack < STACK_PAGES {
+            return Some(self.fixed - STACK_PAGES as usize + on_stack as usize);
+        }
+        let in_heap = number.wrapping_sub(self.heap) as usize;
+        if in_heap < self.pages.len() - self.fixed {
+            Some(self.fixed + in_heap)
         } else {
             None
         }
@@ -355,7 +351,7 @@ impl PageTable {
         requires { number < 2 ^ 20 }
         ensures { result ≡ place_of (numbers (shown self.now.pages)) number }
     {
-        if self.is_known_at(hint.place, number) {
+        if self.pages.shared.is_at(hint.place, number) {
             return Some(hint.place);
         }
         let found = self.place(number);
@@ -363,15 +359,6 @@ impl PageTable {
             hint.place = place;
         }
         found
-    }
-
-    /// Whether the page at this place is known to be the only one with this number.
-    #[inline]
-    fn is_known_at(&self, place: usize, number: u32) -> bool
-        requires { number < 2 ^ 20 }
-        ensures { OnTrue result (place_of (numbers (shown self.now.pages)) number ≡ Some place) }
-    {
-        place < self.known && self.pages.number(place) == number
     }
 
     /// Maps `count` pages of zeros behind those of the heap. Where memory is wanting, nothing changes.
@@ -405,20 +392,6 @@ impl PageTable {
     {
         self.pages.truncate(self.pages.len() - count as usize);
     }
-}
-
-/// How many of the pages, from the first on, the index finds at their own places.
-fn known_places(index: &PageIndex, pages: &[Entry]) -> usize
-    ensures { AreKnown (place_in index.now) (entry_numbers pages.now) result }
-{
-    let mut known = 0;
-    while known < pages.len() {
-        match index.find(pages[known].number) {
-            Some(place) if place == known => known += 1,
-            _ => return known,
-        }
-    }
-    known
 }
 
 /// How many of `len` bytes from `at` on lie in the page of the first.

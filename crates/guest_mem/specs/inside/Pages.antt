@@ -1,11 +1,11 @@
 -- How a list of pages stands for cells, and what is found in it.
-use Rattle.std.specs.Prelude.{◌≡◌, ℕ, zero, suc, ◌+◌, ◌-◌, ◌*◌, ◌^◌, ◌<◌, ◌≤◌, ◌⊎◌, List, [], ◌∷◌, map, length, take, drop, flat_map, replicate, if◌then◌else◌, ◌==◌, slice_index, slice_index_or, Some, None, Option}
-use Rattle.std.specs.Option.{option_map}
+use Rattle.std.specs.Prelude.{◌≡◌, ℕ, zero, suc, ◌+◌, ◌-◌, ◌*◌, ◌<◌, ◌≤◌, ◌⊎◌, List, [], ◌∷◌, ◌++◌, map, length, flat_map, replicate, slice_index, slice_index_or, None}
 use Rattle.std.specs.List.{range_with_len}
 use Rattle.std.specs.FinMap.{from_entries}
 use Rattle.elf_load.specs.Cells.{Cell, Cells}
 use Rattle.elf_load.specs.declared.page.Page.{Page}
 use Rattle.elf_load.specs.declared.rights.Rights.{Rights}
+use Rattle.elf_load.specs.Places.{place_of}
 use Rattle.elf_load.specs.Room.{page_size}
 use Rattle.guest_mem.specs.Break.{zero_cell, pages_to, room_pages, max_pages}
 
@@ -34,11 +34,6 @@ zero_pages first count = map (zero_page zero_cell.rights) (range_with_len first 
 abbrev pub numbers : List GuestPage → List ℕ
 numbers pages = map (λ p. p.number) pages
 
--- the place of the first page with a number
-abbrev pub place_of : List ℕ → ℕ → Option ℕ
-place_of [] n = None
-place_of (m ∷ ms) n = if m == n then Some 0 else option_map (λ i. i + 1) (place_of ms n)
-
 -- the cell of a page at an offset
 abbrev pub cell_in : GuestPage → ℕ → Cell
 cell_in p o = record { byte = slice_index p.bytes o; rights = p.rights }
@@ -57,19 +52,12 @@ pub record AreZeroPages (pages : List GuestPage) (first count : ℕ) : Type 0 wh
   pub numbered : numbers pages ≡ range_with_len first count
   pub zero : (k o : ℕ) (d : GuestPage) → k < count → o < page_size → cell_in (slice_index_or pages k d) o ≡ zero_cell
 
--- What a table of pages keeps: the first `fixed` pages are found by the index, and those behind them are the heap's, whose
--- numbers rise from `heap` on and are no other page's.
-pub record IsPageTable (found : ℕ → Option ℕ) (ns : List ℕ) (fixed heap : ℕ) : Type 0 where
-  pub fixed_in : fixed ≤ length ns
-  pub indexed : (n : ℕ) → n < 2 ^ 20 → found n ≡ place_of (take fixed ns) n
-  pub rising : drop fixed ns ≡ range_with_len heap (length ns - fixed)
-  pub apart : (n : ℕ) → heap ≤ n → n < room_pages → place_of (take fixed ns) n ≡ None
-  pub bounded : heap + (length ns - fixed) ≤ room_pages
-
--- of pages with these numbers, the first `known` are found where they stand
-pub record AreKnown (found : ℕ → Option ℕ) (ns : List ℕ) (known : ℕ) : Type 0 where
-  pub within : known ≤ length ns
-  pub where_they_stand : (i : ℕ) → i < known → found (slice_index ns i) ≡ Some i
+-- What a table of pages keeps: behind the numbers of the pages that stay stand those of the heap, which rise from `heap` on and
+-- are no other page's.
+pub record IsPageTable (front ns : List ℕ) (heap : ℕ) : Type 0 where
+  pub listed : ns ≡ front ++ range_with_len heap (length ns - length front)
+  pub apart : (n : ℕ) → heap ≤ n → n < room_pages → place_of front n ≡ None
+  pub bounded : heap + (length ns - length front) ≤ room_pages
 
 -- a page with other bytes from an offset on
 pub record Rewrites (old new : GuestPage) (o : ℕ) (bytes : List ℕ) : Type 0 where

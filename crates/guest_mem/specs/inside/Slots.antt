@@ -1,11 +1,22 @@
--- Where the bytes of pages stand: in slots of page_size bytes. The first of them are shared by all guests of an image: one
+-- Which pages stay mapped, and where the bytes of pages stand: in slots of page_size bytes. The first of them are shared by all guests of an image: one
 -- that is all zeros, and one for each page of the image. Those behind them are each one page's own.
-use Rattle.std.specs.Prelude.{◌≡◌, ℕ, ◌+◌, ◌*◌, ◌<◌, ◌≤◌, List, [], ◌∷◌, ◌++◌, map, flat_map, length, take, drop, slice_index, if◌then◌else◌, nat_lt}
+use Rattle.std.specs.Prelude.{◌≡◌, ℕ, ◌+◌, ◌*◌, ◌/◌, ◌<◌, ◌≤◌, List, [], ◌∷◌, ◌++◌, map, flat_map, length, take, drop, slice_index, if◌then◌else◌, nat_lt}
+use Rattle.std.specs.List.{range_with_len}
+use Rattle.elf_load.specs.declared.shared.SharedPages.{SharedPages}
+use Rattle.elf_load.specs.Places.{page_numbers}
+use Rattle.elf_load.specs.Room.{page_size}
 use Rattle.guest_mem.specs.declared.entry.Entry.{Entry}
 use Rattle.guest_mem.specs.Break.{max_pages}
+use Rattle.guest_mem.specs.Opening.{stack_base, stack_pages}
 use Rattle.guest_mem.specs.inside.Pages.{GuestPage}
-use Rattle.elf_load.specs.declared.shared.SharedPages.{SharedPages}
-use Rattle.elf_load.specs.Room.{page_size}
+
+-- the number of the first page of the stack
+abbrev pub stack_first : ℕ
+stack_first = stack_base / page_size
+
+-- the numbers of the pages that stay mapped: those of the image, and behind them those of the stack
+abbrev pub fixed_numbers : SharedPages → List ℕ
+fixed_numbers shared = page_numbers shared.pages.items ++ range_with_len stack_first stack_pages
 
 -- the bytes of the shared slots
 unfoldable pub shared_bytes : SharedPages → List ℕ
@@ -18,9 +29,6 @@ slot_bytes bytes slot = take page_size (drop (page_size * slot) bytes)
 -- the page of an entry
 abbrev pub page_of : List ℕ → Entry → GuestPage
 page_of bytes e = record { number = e.number; rights = e.rights; bytes = slot_bytes bytes e.slot }
-
-abbrev pub entry_numbers : List Entry → List ℕ
-entry_numbers entries = map (λ e. e.number) entries
 
 abbrev pub slots : List Entry → List ℕ
 slots entries = map (λ e. e.slot) entries

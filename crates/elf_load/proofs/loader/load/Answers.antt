@@ -1,10 +1,13 @@
-use Rattle.std.proofs.Common.{◌≡◌, ◌≤◌, length, ap, sym, ◌∙◌, arith, Ok, vec_len}
+use Rattle.std.proofs.Common.{◌≡◌, ◌≤◌, ℕ, List, length, ap, sym, subst, ◌∙◌, arith, Ok, vec_len}
 use Rattle.std.proofs.lemmas.Result.{err_from_is_err_and}
 use Rattle.std.specs.Prelude.{Vec}
 use Rattle.std.specs.declared.alloc.Global.{Global}
+use Rattle.std.specs.FinSet.{len}
 use Rattle.elf_load.specs.Cells.{cells_of}
 use Rattle.elf_load.specs.declared.page.Page.{Page}
 use Rattle.elf_load.specs.Pages.{highest_end, rounded_up}
+use Rattle.elf_load.specs.inside.PageIndex.{StandOnce}
+use Rattle.elf_load.proofs.Places.{stand_once}
 use Rattle.elf_load.proofs.Loading.{fault_of_header, refusal_of_program_header, fault_of_entry, no_fault, made_image, length-numbers, pages_below}
 use Rattle.elf_load.proofs.Touched.{highest_end_in_range, numbers_in_range, numbers_below_start}
 use Rattle.elf_load.proofs.loader.load.Goals as goal
@@ -33,6 +36,16 @@ first_break-start-requires c = rw c.deref-2.ensures.value (highest_end_in_range 
 pub make_pages-requires-clause-in_range : goal.make_pages-requires-clause-in_range
 make_pages-requires-clause-in_range c =
     rw c.deref-4.ensures.value (numbers_in_range c.args.bytes.now c.in_ok-layout.layout.segments.items c.in_ok-layout.layout.pages.items c.in_ok-layout.ensures.sound.placed c.in_ok-layout.ensures.sound.pages)
+
+pub share-requires-clause-few : goal.share-requires-clause-few
+share-requires-clause-few c =
+    let numbers = c.in_ok-pages.ensures.numbers ∙ c.deref-4.ensures.value in
+    omega (arith, length-numbers c.in_ok-pages.pages.items c.in_ok-layout.layout.pages.items numbers, c.in_ok-layout.ensures.sound.few)
+
+pub share-requires-clause-once : goal.share-requires-clause-once
+share-requires-clause-once c =
+    let listed = c.in_ok-layout.ensures.sound.pages in
+    subst (λ (ns : List ℕ). StandOnce ns) (sym (c.in_ok-pages.ensures.numbers ∙ c.deref-4.ensures.value)) (stand_once c.in_ok-layout.layout.pages.items (listed.once ∙ ap len (sym listed.same)))
 
 pub new-requires-clause-in_range : goal.new-requires-clause-in_range
 new-requires-clause-in_range c =

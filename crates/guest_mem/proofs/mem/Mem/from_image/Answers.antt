@@ -1,4 +1,4 @@
-use Rattle.std.proofs.Common.{◌≡◌, ◌+◌, ◌*◌, ◌≤◌, List, ◌++◌, ap, ◌∙◌, arith}
+use Rattle.std.proofs.Common.{◌≡◌, ◌+◌, ◌*◌, ◌≤◌, List, ◌++◌, ap, sym, ◌∙◌, arith}
 use Rattle.std.specs.Arc.{arc_value}
 use Rattle.elf_load.specs.Cells.{Cells}
 use Rattle.elf_load.specs.declared.page.Page.{Page}
@@ -7,8 +7,14 @@ use Rattle.guest_mem.specs.Break.{with_zeros}
 use Rattle.guest_mem.specs.Opening.{stack_base, stack_pages}
 use Rattle.guest_mem.specs.inside.PageStore.{shown}
 use Rattle.guest_mem.specs.inside.Pages.{zero_pages, mapped_cells}
-use Rattle.guest_mem.proofs.BreakLemmas.{apart_at_start, cells_at_start, opening_is}
+use Rattle.guest_mem.specs.inside.Slots.{fixed_numbers}
+use Rattle.guest_mem.proofs.BreakLemmas.{numbers_at_start, apart_at_start, cells_at_start, opening_is}
 use Rattle.guest_mem.proofs.mem.Mem.from_image.Goals as goal
+
+pub new-requires-clause-listed : goal.new-requires-clause-listed
+new-requires-clause-listed c =
+    numbers_at_start (arc_value c.in_ok-shared.shared) (shown c.push_zeros.new.self) (c.push_zeros.ensures.pushed ∙ ap (λ ps. ps ++ zero_pages 0xBFF00 stack_pages) c.in_ok-pages.ensures.pages)
+    ∙ ap fixed_numbers (sym (c.push_zeros.ensures.shared ∙ c.in_ok-pages.ensures.shared))
 
 pub new-requires-clause-apart : goal.new-requires-clause-apart
 new-requires-clause-apart c = λ n above below.
@@ -21,10 +27,10 @@ returns c =
     let image = c.args.image.now in
     let ps : List Page = (arc_value c.in_ok-shared.shared).pages.items in
     let low : c.args.image.now.start ≤ page_size * 0xBFF00 = omega (arith, c.start-start.ensures.value, c.start-start.ensures.in_range) in
-    let cells : mapped_cells (shown c.in_ok-table.table.pages) ≡ with_zeros image.cells stack_base (page_size * stack_pages) =
-    ap mapped_cells (c.in_ok-table.ensures.pages ∙ c.push_zeros.ensures.pushed ∙ ap (λ ps. ps ++ zero_pages 0xBFF00 stack_pages) c.in_ok-pages.ensures.pages)
+    let cells : mapped_cells (shown c.new.result.pages) ≡ with_zeros image.cells stack_base (page_size * stack_pages) =
+    ap mapped_cells (c.new.ensures.pages ∙ c.push_zeros.ensures.pushed ∙ ap (λ ps. ps ++ zero_pages 0xBFF00 stack_pages) c.in_ok-pages.ensures.pages)
     ∙ cells_at_start ps c.args.image.now.start 0xBFF00 stack_pages c.in_ok-shared.ensures.below_start low
     ∙ ap (λ (c : Cells). with_zeros c stack_base (page_size * stack_pages)) c.in_ok-shared.ensures.cells in
-    let count : c.in_ok-table.table.pages.count ≡ c.args.image.now.pages + stack_pages =
-    omega (arith, c.in_ok-table.ensures.count, c.push_zeros.ensures.count, c.in_ok-pages.ensures.count, c.in_ok-shared.ensures.count) in
-    opening_is image (mapped_cells (shown c.in_ok-table.table.pages)) c.start-start.result c.in_ok-table.table.pages.count cells c.start-start.ensures.value count
+    let count : c.new.result.pages.count ≡ c.args.image.now.pages + stack_pages =
+    omega (arith, c.new.ensures.count, c.push_zeros.ensures.count, c.in_ok-pages.ensures.count, c.in_ok-shared.ensures.count) in
+    opening_is image (mapped_cells (shown c.new.result.pages)) c.start-start.result c.new.result.pages.count cells c.start-start.ensures.value count

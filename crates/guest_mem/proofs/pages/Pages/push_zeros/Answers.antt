@@ -18,4 +18,5 @@ loop-number-preserved c =
           ∙ ap (λ (ps : List GuestPage). old ++ ps) (sym (zero_pages_more c.args.first k)) ∙ ap (λ (n : ℕ). old ++ zero_pages c.args.first n) next,
       omega (arith, c.push.ensures.count, c.loop-number.invariant.1),
       c.push.ensures.room _ c.loop-number.invariant.2,
+      c.push.ensures.shared ∙ c.loop-number.invariant.3,
     )

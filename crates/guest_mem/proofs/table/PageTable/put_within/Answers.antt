@@ -1,10 +1,13 @@
-use Rattle.std.proofs.Common.{◌≡◌, ℕ, ◌/◌, ◌%◌, ◌<◌, true, false, List, length, get_or, set, take, Some, None, refl, sym, ap, ◌∙◌, arith, subst}
+use Rattle.std.proofs.Common.{◌≡◌, ℕ, ◌/◌, ◌%◌, ◌<◌, true, false, List, length, get_or, set, Some, None, refl, sym, ap, ◌∙◌, arith, subst}
+use Rattle.std.specs.Arc.{arc_value}
+use Rattle.elf_load.specs.Places.{place_of}
+use Rattle.elf_load.proofs.Places.{place_of_in}
 use Rattle.guest_mem.specs.declared.right.Right.TheVariants.{Write}
 use Rattle.guest_mem.specs.Memory.{permits}
-use Rattle.guest_mem.specs.inside.PageIndex.{place_in}
 use Rattle.guest_mem.specs.inside.PageStore.{shown}
-use Rattle.guest_mem.specs.inside.Pages.{GuestPage, AreKnown, IsPageTable, numbers, place_of, mapped_cells}
-use Rattle.guest_mem.proofs.PageLemmas.{place_of_in, within_some, within_denied, within_none, numbers_put, cells_put}
+use Rattle.guest_mem.specs.inside.Pages.{GuestPage, IsPageTable, numbers, mapped_cells}
+use Rattle.guest_mem.specs.inside.Slots.{fixed_numbers}
+use Rattle.guest_mem.proofs.PageLemmas.{within_some, within_denied, within_none, numbers_put, cells_put}
 use Rattle.guest_mem.proofs.SlotLemmas.{length-numbers, blank, length_shown_page, rewritten_set}
 use Rattle.guest_mem.proofs.table.PageTable.put_within.Goals as goal
 use Rattle.elf_load.specs.Room.{page_size}
@@ -45,9 +48,10 @@ invariant_of-self c =
     let found : place_of (numbers ps) (c.args.at / page_size) ≡ Some place = sym c.in-Some.ensures in
     let is : now ≡ set ps place (get_or now place d) = rewritten_set ps now place (c.args.at % page_size) c.args.bytes.now d c.write.ensures.written in
     let same : numbers now ≡ numbers ps = ap numbers is ∙ numbers_put ps (c.args.at / page_size) place (c.args.at % page_size) c.args.bytes.now (get_or now place d) d found (c.write.ensures.written.here d) in
+    let front : fixed_numbers (arc_value c.write.new.self.shared) ≡ fixed_numbers (arc_value t.pages.shared) = ap fixed_numbers c.write.ensures.shared in
     record {
-      sound = subst (λ (ns : List ℕ). IsPageTable (place_in t.index) ns t.fixed t.heap) (sym same) t.sound;
-      known_sound = subst (λ (ns : List ℕ). AreKnown (place_in t.index) (take t.fixed ns) t.known) (sym same) t.known_sound;
+      stay = t.stay ∙ sym (ap length front);
+      sound = subst (λ (fs : List ℕ). IsPageTable fs (numbers now) t.heap) (sym front) (subst (λ (ns : List ℕ). IsPageTable (fixed_numbers (arc_value t.pages.shared)) ns t.heap) (sym same) t.sound);
     }
 
 pub returns-clause-put : goal.returns-clause-put

@@ -1,8 +1,10 @@
 use Rattle.std.proofs.Common.{◌≡◌, ◌/◌, ◌<◌, true, false, List, get_or, Some, None, sym, ap, ◌∙◌, arith}
+use Rattle.elf_load.specs.Places.{place_of}
+use Rattle.elf_load.proofs.Places.{place_of_in}
 use Rattle.guest_mem.specs.Memory.{permits}
 use Rattle.guest_mem.specs.inside.PageStore.{shown}
-use Rattle.guest_mem.specs.inside.Pages.{GuestPage, numbers, place_of}
-use Rattle.guest_mem.proofs.PageLemmas.{place_of_in, within_some, within_denied, within_none}
+use Rattle.guest_mem.specs.inside.Pages.{GuestPage, numbers}
+use Rattle.guest_mem.proofs.PageLemmas.{within_some, within_denied, within_none}
 use Rattle.guest_mem.proofs.SlotLemmas.{length-numbers, blank, length_shown_page}
 use Rattle.guest_mem.proofs.table.PageTable.within_page.Goals as goal
 use Rattle.elf_load.specs.Room.{page_size}

@@ -1,10 +1,10 @@
-//! The index of a guest's pages: two levels, from a page's number to its place.
+//! The index of an image's pages: two levels, from a page's number to its place.
 
 ghost use Rattle.std.specs.Prelude.{◌≡◌, ℕ, ◌+◌, ◌-◌, ◌*◌, ◌^◌, ◌<◌, ◌≤◌, None, Some, IfOk, OnOk, [], length, vec_len, slice_index, if◌then◌else◌, ◌==◌};
 ghost use Rattle.std.proofs.Props.{props};
-ghost use Rattle.guest_mem.specs.inside.Tables.{AreTables, root_size, table_size, no_place};
+ghost use Rattle.elf_load.specs.inside.Tables.{AreTables, root_size, table_size, no_place};
 
-use crate::entry::Entry;
+use crate::page::Page;
 use std::alloc::{AllocError, Global};
 
 /// The entry of a page number that no page has.
@@ -28,13 +28,13 @@ pub(crate) struct PageIndex {
 }
 
 impl PageIndex {
-    ghost use Rattle.guest_mem.specs.inside.PageIndex.{place_in, Finds};
-    ghost use Rattle.guest_mem.specs.inside.Slots.{entry_numbers};
+    ghost use Rattle.elf_load.specs.Places.{page_numbers};
+    ghost use Rattle.elf_load.specs.inside.PageIndex.{place_in, Finds};
 
     /// The index of these pages: of pages with one number the first is found.
-    pub fn of(alloc: Global, pages: &[Entry]) -> Result<PageIndex, AllocError>
+    pub fn of(alloc: Global, pages: &[Page]) -> Result<PageIndex, AllocError>
         requires { length pages.now < no_place }
-        ensures { IfOk result (λ index. Finds index (entry_numbers pages.now)) }
+        ensures { IfOk result (λ index. Finds index (page_numbers pages.now)) }
     {
         let mut index = PageIndex::new(alloc)?;
         for (place, page) in pages.iter().enumerate() {
