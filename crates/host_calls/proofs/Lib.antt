@@ -1,4 +1,3 @@
 pub mod Closed
 pub mod Entries
-pub mod Reacting
 pub mod Waits

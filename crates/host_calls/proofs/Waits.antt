@@ -1,5 +1,5 @@
 -- What a wait for an epoll sees of its entries, and what it tells by that.
-use Rattle.std.proofs.Common.{◌≡◌, ℕ, zero, suc, ◌+◌, ◌-◌, ◌<◌, ◌≤◌, Bool, true, false, ◌&&◌, ◌||◌, nat_lt, if◌then◌else◌, List, [], ◌∷◌, ◌++◌, length, take, map, get_or, replicate, flat_map, slice_set, Option, None, Some, Result, Ok, Err, refl, sym, ap, ap₂, ◌∙◌, arith, append_assoc, append-nil, take_all}
+use Rattle.std.proofs.Common.{◌≡◌, ℕ, zero, suc, ◌+◌, ◌-◌, ◌<◌, ◌≤◌, Bool, true, false, ◌&&◌, ◌||◌, nat_lt, if◌then◌else◌, List, [], ◌∷◌, ◌++◌, length, take, map, get_or, replicate, flat_map, slice_set, Option, None, Some, Result, Ok, Err, refl, sym, subst, ap, ap₂, ◌∙◌, arith, append_assoc, append-nil, take_all}
 use Rattle.std.specs.List.{list_any}
 use Rattle.std.proofs.Math.Bool.{and-false, or-false, or-true}
 use Rattle.std.proofs.lemmas.Grind.{replicate_next}
@@ -15,7 +15,6 @@ use Rattle.host_fds.specs.declared.epoll.Watch.{Watch}
 use Rattle.host_fds.specs.Epoll.{told, reported, is_told, is_due, entry_of, report_of}
 use Rattle.host_files.specs.Epolls.{epoll_at, told_by}
 use Rattle.host_wants.specs.declared.error.CallError.{CallError}
-use Rattle.host_wants.specs.declared.error.CallError.TheVariants.{Refused, NoMemory}
 use Rattle.host_wants.specs.declared.error.Refusal.{Refusal}
 use Rattle.host_sockets.specs.declared.sockets.Sockets.{Sockets}
 use Rattle.host_sockets.specs.Sockets.{SocketsRecord}
@@ -24,6 +23,7 @@ use Rattle.call_parts.specs.declared.call.WaitingCall.{WaitingCall}
 use Rattle.call_parts.specs.declared.call.WaitingCall.TheVariants as waiting
 use Rattle.call_parts.specs.declared.epoll.WaitPlan.{WaitPlan}
 use Rattle.file_calls.specs.declared.known.Known.{Known}
+use Rattle.host_calls.specs.declared.parts.Reaction.{Reaction}
 use Rattle.host_calls.specs.declared.parts.Reaction.TheVariants.{Value}
 use Rattle.file_calls.specs.declared.task.Shared.{Shared}
 use Rattle.file_calls.specs.declared.task.Task.{Task}
@@ -185,13 +185,13 @@ unfolding told_so
 told_alike p s all others h = ap₂ (told_so p s) (h.told p.room) (h.left p.room)
 
 -- a wait for which all has been seen that tells alike
-pub waits_answer : (now : Time) (p : WaitPlan) (task new : Task) (shared : Shared) (c : Sockets) (t : SocketsRecord) (all : List Seen) (found : ℕ)
+pub waits_react : (now : Time) (p : WaitPlan) (task new : Task) (shared : Shared) (c : Sockets) (t : SocketsRecord) (all : List Seen) (found : ℕ)
     → TellAlike (epoll_at p.place task.epolls) all (all_seen now (scene (task, shared) t) (epoll_at p.place task.epolls))
     → found ≡ length (told_by p.room all (epoll_at p.place task.epolls)) → new ≡ telling p all task → Stand c t
-    → Answers (epoll_waits now p (scene (task, shared) t)) (task, shared) t (new, shared) c (Ok found)
-waits_answer now p task new shared c t all found alike found_is new_is stands =
+    → Answers (reacts (epoll_waits now p (scene (task, shared) t))) (task, shared) t (new, shared) c (Ok (Value found))
+waits_react now p task new shared c t all found alike found_is new_is stands =
     let tells : told_of p all (scene (task, shared) t) ≡ (found, scene (new, shared) t) = ap₂ (λ n x. (n, scene (x, shared) t)) (sym found_is) (sym new_is) in
-    (t, (ap Ok (sym (told_alike p (scene (task, shared) t) all (all_seen now (scene (task, shared) t) (epoll_at p.place task.epolls)) alike) ∙ tells), stands))
+    (t, (ap (λ (after : ℕ × Scene). reacts (Ok after)) (sym (told_alike p (scene (task, shared) t) all (all_seen now (scene (task, shared) t) (epoll_at p.place task.epolls)) alike) ∙ tells), stands))
 
 -- the row of a wait for an epoll
 both : (r : Result WaitPlan Refusal) (known : Known) (now : Time) (process : ℕ) (s : Scene)
@@ -205,13 +205,7 @@ module _ (known : Known) (now : Time) (process : ℕ) (args : List ℕ) (s : Sce
       ap (λ call. waiting_row known now process call args s) is
       ∙ both (wait_plan now (arg args 0) (arg args 1) (arg args 2) (arg args 3) s) known now process s
 
-  pub wait_reacts : (value : ℕ) (old new : Local) (t : SocketsRecord) (c : Sockets)
-      → Answers (epoll_pwait now (arg args 0) (arg args 1) (arg args 2) (arg args 3) s) old t new c (Ok value)
-      → Answers (waiting_row known now process w args s) old t new c (Ok (Value value))
-  wait_reacts value old new t c (next, (e, stands)) = (next, (row_of_wait ∙ ap reacts e, stands))
-
-  pub wait_refuses : (error : CallError) (old new : Local) (t : SocketsRecord) (c : Sockets)
-      → Answers (epoll_pwait now (arg args 0) (arg args 1) (arg args 2) (arg args 3) s) old t new c (Err error)
-      → Answers (waiting_row known now process w args s) old t new c (Err error)
-  wait_refuses (Refused r) old new t c (e, same) = (row_of_wait ∙ ap reacts e, same)
-  wait_refuses NoMemory old new t c h = tt
+  pub wait_answers : (answer : Result Reaction CallError) (old new : Local) (t : SocketsRecord) (c : Sockets)
+      → Answers (reacts (epoll_pwait now (arg args 0) (arg args 1) (arg args 2) (arg args 3) s)) old t new c answer
+      → Answers (waiting_row known now process w args s) old t new c answer
+  wait_answers answer old new t c h = subst (λ (row : Result (Reaction × Scene) Refusal). Answers row old t new c answer) (sym row_of_wait) h

@@ -5,8 +5,9 @@ ghost use Rattle.std.specs.FinMap as map;
 ghost use Rattle.host_fds.specs.Descriptors.{limit};
 ghost use Rattle.file_calls.specs.Descriptors.{IsFree};
 ghost use Rattle.host_calls.specs.Sockets as spec;
-ghost use Rattle.host_calls.specs.inside.Stage.{Acts, Sees};
+ghost use Rattle.host_calls.specs.inside.Stage.{Reacts, Sees};
 
+use crate::parts::Reaction;
 use crate::stage::{Stage, View};
 use call_parts::{OpenSocket, open_socket, result_address, tcp_number};
 use file_calls::{lowest_free, open, or_again};
@@ -70,9 +71,9 @@ impl View<'_> {
 
 impl Stage<'_> {
     /// `accept(2)`.
-    pub(crate) fn accept(&mut self, accepting: AcceptPlan) -> Result<u32, CallError>
+    pub(crate) fn accept(&mut self, accepting: AcceptPlan) -> Result<Reaction, CallError>
         requires { IsFree accepting.new.fd self.old.task.now.table }
-        ensures { Acts (spec.accepts accepting) self.old self.new result }
+        ensures { Reacts (spec.accepts accepting) self.old self.new result }
     {
         let new = accepting.new;
         let accepted = self.sockets.accept_tcp(accepting.listener)?;
@@ -82,6 +83,6 @@ impl Stage<'_> {
         };
         open(new.fd, file, self.task, self.shared)?;
         answer(&mut self.task.memory, new.place, accepted.peer);
-        Ok(new.fd)
+        Ok(Reaction::Value(new.fd))
     }
 }

@@ -28,28 +28,13 @@ impl Stage<'_> {
                 let value = writing::write(self.process, transfer, self.task, self.shared)?;
                 Ok(Reaction::Value(value))
             }
-            Plan::Accept(accepting) => {
-                let value = self.accept(accepting)?;
-                Ok(Reaction::Value(value))
-            }
+            Plan::Accept(accepting) => self.accept(accepting),
             Plan::Connect(connecting) => self.connect(connecting),
-            Plan::Send(sending) => {
-                let value = self.send(sending)?;
-                Ok(Reaction::Value(value))
-            }
-            Plan::Receive(receiving) => {
-                let value = self.recv(receiving)?;
-                Ok(Reaction::Value(value))
-            }
+            Plan::Send(sending) => self.send(sending),
+            Plan::Receive(receiving) => self.recv(receiving),
             Plan::Sleep => Ok(Reaction::Value(0)),
-            Plan::Poll(polling) => {
-                let value = self.ppoll(polling)?;
-                Ok(Reaction::Value(value))
-            }
-            Plan::EpollWait(waiting) => {
-                let value = self.epoll_wait(waiting)?;
-                Ok(Reaction::Value(value))
-            }
+            Plan::Poll(polling) => self.ppoll(polling),
+            Plan::EpollWait(waiting) => self.epoll_wait(waiting),
         }
     }
 }

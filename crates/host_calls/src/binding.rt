@@ -4,8 +4,9 @@ ghost use Rattle.std.specs.Prelude.{◌≡◌};
 ghost use Rattle.host_sockets.specs.Sockets.{SocketsRecord};
 ghost use Rattle.host_sockets.specs.StandsFor.{Stand, Becomes};
 ghost use Rattle.host_calls.specs.Sockets as spec;
-ghost use Rattle.host_calls.specs.inside.Stage.{Acts};
+ghost use Rattle.host_calls.specs.inside.Stage.{Reacts};
 
+use crate::parts::Reaction;
 use crate::stage::Stage;
 use call_parts::{
     SocketNumber, address_bytes, inet_address, open_socket, socket_asked, tcp_number,
@@ -58,8 +59,13 @@ fn bind_at(
 
 impl Stage<'_> {
     /// `socket(2)`.
-    pub(crate) fn socket(&mut self, family: u32, kind: u32, protocol: u32) -> Result<u32, CallError>
-        ensures { Acts (spec.socket family kind protocol) self.old self.new result }
+    pub(crate) fn socket(
+        &mut self,
+        family: u32,
+        kind: u32,
+        protocol: u32,
+    ) -> Result<Reaction, CallError>
+        ensures { Reacts (spec.socket family kind protocol) self.old self.new result }
     {
         let new = socket_asked(family, kind, protocol, self.task)?;
         let nonblocking = has(O_NONBLOCK, kind);
@@ -71,7 +77,7 @@ impl Stage<'_> {
                 object,
             };
             open(new.fd, file, self.task, self.shared)?;
-            Ok(new.fd)
+            Ok(Reaction::Value(new.fd))
         } else {
             let place = self.sockets.new_udp()?;
             let object = Object::Udp(place);
@@ -80,27 +86,27 @@ impl Stage<'_> {
                 object,
             };
             open(new.fd, file, self.task, self.shared)?;
-            Ok(new.fd)
+            Ok(Reaction::Value(new.fd))
         }
     }
 
     /// `bind(2)`.
-    pub(crate) fn bind(&mut self, fd: u32, at: u32, size: u32) -> Result<u32, CallError>
-        ensures { Acts (spec.bind self.old.known.now.book fd at size) self.old self.new result }
+    pub(crate) fn bind(&mut self, fd: u32, at: u32, size: u32) -> Result<Reaction, CallError>
+        ensures { Reacts (spec.bind self.old.known.now.book fd at size) self.old self.new result }
     {
         let socket = open_socket(fd, self.task, self.shared)?;
         let to = bind_asked(socket.number, at, size, &self.task.memory, self.sockets)?;
         bind_at(&self.known.book, socket.number, to, self.sockets)?;
-        Ok(0)
+        Ok(Reaction::Value(0))
     }
 
     /// `listen(2)`.
-    pub(crate) fn listen(&mut self, fd: u32, backlog: u32) -> Result<u32, CallError>
-        ensures { Acts (spec.listen fd backlog) self.old self.new result }
+    pub(crate) fn listen(&mut self, fd: u32, backlog: u32) -> Result<Reaction, CallError>
+        ensures { Reacts (spec.listen fd backlog) self.old self.new result }
     {
         let socket = open_socket(fd, self.task, self.shared)?;
         let place = tcp_number(socket.number)?;
         self.sockets.listen_tcp(place, backlog.cast_signed())?;
-        Ok(0)
+        Ok(Reaction::Value(0))
     }
 }

@@ -67,34 +67,13 @@ impl Stage<'_> {
     {
         let [a, b, c, d, e, _f] = args;
         match call {
-            NetworkCall::Socket => {
-                let value = self.socket(a, b, c)?;
-                Ok(Reaction::Value(value))
-            }
-            NetworkCall::Bind => {
-                let value = self.bind(a, b, c)?;
-                Ok(Reaction::Value(value))
-            }
-            NetworkCall::Listen => {
-                let value = self.listen(a, b)?;
-                Ok(Reaction::Value(value))
-            }
-            NetworkCall::Getsockname => {
-                let value = self.getsockname(a, b, c)?;
-                Ok(Reaction::Value(value))
-            }
-            NetworkCall::Getpeername => {
-                let value = self.getpeername(a, b, c)?;
-                Ok(Reaction::Value(value))
-            }
-            NetworkCall::Getsockopt => {
-                let value = self.getsockopt(a, b, c, d, e)?;
-                Ok(Reaction::Value(value))
-            }
-            NetworkCall::Shutdown => {
-                let value = self.shutdown(a, b)?;
-                Ok(Reaction::Value(value))
-            }
+            NetworkCall::Socket => self.socket(a, b, c),
+            NetworkCall::Bind => self.bind(a, b, c),
+            NetworkCall::Listen => self.listen(a, b),
+            NetworkCall::Getsockname => self.getsockname(a, b, c),
+            NetworkCall::Getpeername => self.getpeername(a, b, c),
+            NetworkCall::Getsockopt => self.getsockopt(a, b, c, d, e),
+            NetworkCall::Shutdown => self.shutdown(a, b),
         }
     }
 
@@ -115,8 +94,7 @@ impl Stage<'_> {
     {
         if let WaitingCall::EpollWait = call {
             let [a, b, c, d, _e, _f] = args;
-            let value = self.epoll_pwait(a, b, c, d)?;
-            return Ok(Reaction::Value(value));
+            return self.epoll_pwait(a, b, c, d);
         }
         self.asked_row(call, args)
     }
@@ -133,10 +111,7 @@ impl Stage<'_> {
             }
             Call::Network(call) => self.network_row(call, args),
             Call::Waiting(call) => self.waiting_row(call, args),
-            Call::Close => {
-                let value = self.close(args[0])?;
-                Ok(Reaction::Value(value))
-            }
+            Call::Close => self.close(args[0]),
             Call::Exit => Err(CallError::Refused(Refusal::End(exited(args[0])))),
         }
     }

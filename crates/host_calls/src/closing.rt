@@ -6,8 +6,9 @@ ghost use Rattle.host_sockets.specs.StandsFor.{Stand};
 ghost use Rattle.host_files.specs.Epolls.{forgotten};
 ghost use Rattle.host_calls.specs.Closing as spec;
 ghost use Rattle.host_calls.specs.Parts.{Leaves, scene};
-ghost use Rattle.host_calls.specs.inside.Stage.{Acts};
+ghost use Rattle.host_calls.specs.inside.Stage.{Reacts};
 
+use crate::parts::Reaction;
 use crate::stage::Stage;
 use file_calls::{Descriptor, Shared, Task, look_up};
 use host_fds::{End, Table};
@@ -103,12 +104,12 @@ fn close_file(
 
 impl Stage<'_> {
     /// `close(2)`.
-    pub(crate) fn close(&mut self, fd: u32) -> Result<u32, CallError>
-        ensures { Acts (spec.close self.old.time fd) self.old self.new result }
+    pub(crate) fn close(&mut self, fd: u32) -> Result<Reaction, CallError>
+        ensures { Reacts (spec.close self.old.time fd) self.old self.new result }
     {
         let d = look_up(fd, self.task, &self.shared.files)?;
         close_file(self.time, fd, d, self.task, self.shared, self.sockets)?;
-        Ok(0)
+        Ok(Reaction::Value(0))
     }
 }
 

@@ -7,8 +7,9 @@ ghost use Rattle.host_sockets.specs.StandsFor.{Stand};
 ghost use Rattle.host_files.specs.Epolls.{epoll_at};
 ghost use Rattle.host_calls.specs.Epoll as spec;
 ghost use Rattle.host_calls.specs.Ready.{some_due as any_due};
-ghost use Rattle.host_calls.specs.inside.Stage.{Acts, Sees, scene_in};
+ghost use Rattle.host_calls.specs.inside.Stage.{Reacts, Sees, scene_in};
 
+use crate::parts::Reaction;
 use crate::stage::{Stage, View};
 use call_parts::{WaitPlan, is_any_seen, put_seen, tell, wait_deadline, wait_place, waits_unless};
 use host_fds::{Seen, Watch};
@@ -78,14 +79,14 @@ impl View<'_> {
 
 impl Stage<'_> {
     /// An `epoll_pwait(2)` that was asked what it would do.
-    pub(crate) fn epoll_wait(&mut self, waiting: WaitPlan) -> Result<u32, CallError>
+    pub(crate) fn epoll_wait(&mut self, waiting: WaitPlan) -> Result<Reaction, CallError>
         requires { self.old.time.nanos ≤ latest_time }
-        ensures { Acts (spec.epoll_waits self.old.time waiting) self.old self.new result }
+        ensures { Reacts (spec.epoll_waits self.old.time waiting) self.old self.new result }
     {
         let alloc = self.shared.files.allocator();
         let all = self.view().all_seen(alloc, waiting.place)?;
         let found = tell(alloc, waiting, all.as_slice(), self.task)?;
-        Ok(found)
+        Ok(Reaction::Value(found))
     }
 
     /// `epoll_pwait(2)`. It looks at each entry once, to see whether it waits and what it tells.
@@ -95,9 +96,9 @@ impl Stage<'_> {
         at: u32,
         count: u32,
         ms: u32,
-    ) -> Result<u32, CallError>
+    ) -> Result<Reaction, CallError>
         requires { self.old.time.nanos ≤ latest_time }
-        ensures { Acts (spec.epoll_pwait self.old.time epfd at count ms) self.old self.new result }
+        ensures { Reacts (spec.epoll_pwait self.old.time epfd at count ms) self.old self.new result }
     {
         let now = self.time;
         let waiting = wait_place(epfd, at, count, self.task, self.shared)?;
@@ -106,6 +107,6 @@ impl Stage<'_> {
         let all = self.view().all_seen(alloc, waiting.place)?;
         waits_unless(now, deadline, is_any_seen(all.as_slice()))?;
         let found = tell(alloc, waiting, all.as_slice(), self.task)?;
-        Ok(found)
+        Ok(Reaction::Value(found))
     }
 }

@@ -4,8 +4,9 @@ ghost use Rattle.std.specs.Prelude.{◌≡◌};
 ghost use Rattle.host_sockets.specs.Sockets.{SocketsRecord};
 ghost use Rattle.host_sockets.specs.StandsFor.{Stand};
 ghost use Rattle.host_calls.specs.Sockets as spec;
-ghost use Rattle.host_calls.specs.inside.Stage.{Acts};
+ghost use Rattle.host_calls.specs.inside.Stage.{Reacts};
 
+use crate::parts::Reaction;
 use crate::stage::Stage;
 use call_parts::{SocketNumber, open_socket, result_address};
 use guest_args::answer;
@@ -51,43 +52,53 @@ fn shut_of(how: u32) -> Result<Shut, Refusal>
 
 impl Stage<'_> {
     /// `getsockname(2)`.
-    pub(crate) fn getsockname(&mut self, fd: u32, at: u32, size_at: u32) -> Result<u32, CallError>
-        ensures { Acts (spec.getsockname fd at size_at) self.old self.new result }
+    pub(crate) fn getsockname(
+        &mut self,
+        fd: u32,
+        at: u32,
+        size_at: u32,
+    ) -> Result<Reaction, CallError>
+        ensures { Reacts (spec.getsockname fd at size_at) self.old self.new result }
     {
         let socket = open_socket(fd, self.task, self.shared)?;
         let name = name_of(socket.number, self.sockets)?;
         let place = result_address(&self.task.memory, at, size_at)?;
         answer(&mut self.task.memory, place, name);
-        Ok(0)
+        Ok(Reaction::Value(0))
     }
 
     /// `getpeername(2)`.
-    pub(crate) fn getpeername(&mut self, fd: u32, at: u32, size_at: u32) -> Result<u32, CallError>
-        ensures { Acts (spec.getpeername fd at size_at) self.old self.new result }
+    pub(crate) fn getpeername(
+        &mut self,
+        fd: u32,
+        at: u32,
+        size_at: u32,
+    ) -> Result<Reaction, CallError>
+        ensures { Reacts (spec.getpeername fd at size_at) self.old self.new result }
     {
         let socket = open_socket(fd, self.task, self.shared)?;
         let peer = peer_of(socket.number, self.sockets)?;
         let place = result_address(&self.task.memory, at, size_at)?;
         answer(&mut self.task.memory, place, peer);
-        Ok(0)
+        Ok(Reaction::Value(0))
     }
 
-    fn shut(&mut self, how: Shut, number: SocketNumber) -> Result<u32, CallError>
-        ensures { Acts (spec.shuts self.old.time how number) self.old self.new result }
+    fn shut(&mut self, how: Shut, number: SocketNumber) -> Result<Reaction, CallError>
+        ensures { Reacts (spec.shuts self.old.time how number) self.old self.new result }
     {
         match number {
             SocketNumber::Udp(_) => Err(CallError::Refused(Refusal::Errno(Errno::Enotconn))),
             SocketNumber::Tcp(place) => {
                 self.sockets
                     .shut_tcp(&mut self.shared.outlet, self.time, place, how)?;
-                Ok(0)
+                Ok(Reaction::Value(0))
             }
         }
     }
 
     /// `shutdown(2)`.
-    pub(crate) fn shutdown(&mut self, fd: u32, how: u32) -> Result<u32, CallError>
-        ensures { Acts (spec.shutdown self.old.time fd how) self.old self.new result }
+    pub(crate) fn shutdown(&mut self, fd: u32, how: u32) -> Result<Reaction, CallError>
+        ensures { Reacts (spec.shutdown self.old.time fd how) self.old self.new result }
     {
         let socket = open_socket(fd, self.task, self.shared)?;
         let direction = shut_of(how)?;

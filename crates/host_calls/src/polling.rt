@@ -2,10 +2,11 @@
 
 ghost use Rattle.std.specs.Prelude.{◌≡◌, ◌*◌, ◌≤◌, length, Ok, Err, IfOk};
 ghost use Rattle.sim_base.specs.Units.{latest_time};
-ghost use Rattle.host_calls.specs.inside.Stage.{Acts, Sees};
+ghost use Rattle.host_calls.specs.inside.Stage.{Reacts, Sees};
 ghost use Rattle.call_parts.specs.Polling.{entry_size, max_entries};
 ghost use Rattle.host_calls.specs.Polling as spec;
 
+use crate::parts::Reaction;
 use crate::stage::{Stage, View};
 use call_parts::{
     asked_events, asked_fd, count_one, entry_at, has_come, poll_deadline, poll_entries,
@@ -150,10 +151,10 @@ impl View<'_> {
 
 impl Stage<'_> {
     /// `ppoll(2)`.
-    pub(crate) fn ppoll(&mut self, polling: PollPlan) -> Result<u32, CallError>
+    pub(crate) fn ppoll(&mut self, polling: PollPlan) -> Result<Reaction, CallError>
         requires time { self.old.time.nanos ≤ latest_time }
         requires count { polling.count ≤ max_entries }
-        ensures { Acts (spec.polls self.old.time polling) self.old self.new result }
+        ensures { Reacts (spec.polls self.old.time polling) self.old self.new result }
     {
         if polling.count > FEW {
             let mut entries = [0; 2048];
@@ -164,11 +165,11 @@ impl Stage<'_> {
     }
 
     /// The same, where the entries are read into this room.
-    fn tell_over(&mut self, polling: PollPlan, entries: &mut [u8]) -> Result<u32, CallError>
+    fn tell_over(&mut self, polling: PollPlan, entries: &mut [u8]) -> Result<Reaction, CallError>
         requires time { self.old.time.nanos ≤ latest_time }
         requires count { polling.count ≤ max_entries }
         requires length { length entries.old ≡ entry_size * polling.count }
-        ensures { Acts (spec.polls self.old.time polling) self.old self.new result }
+        ensures { Reacts (spec.polls self.old.time polling) self.old self.new result }
     {
         let PollPlan { at, count, found } = polling;
         let count = count as usize;
@@ -176,6 +177,6 @@ impl Stage<'_> {
         let alloc = self.shared.files.allocator();
         let bytes = self.view().told_entries(alloc, count, entries)?;
         fill(&mut self.task.memory, at, bytes.as_slice());
-        Ok(found)
+        Ok(Reaction::Value(found))
     }
 }

@@ -7,8 +7,9 @@ ghost use Rattle.host_sockets.specs.Sockets.{SocketsRecord};
 ghost use Rattle.host_sockets.specs.StandsFor.{Stand};
 ghost use Rattle.guest_args.specs.Span.{most};
 ghost use Rattle.host_calls.specs.Sockets as spec;
-ghost use Rattle.host_calls.specs.inside.Stage.{Acts, Sees};
+ghost use Rattle.host_calls.specs.inside.Stage.{Reacts, Sees};
 
+use crate::parts::Reaction;
 use crate::stage::{Stage, View};
 use call_parts::{OpenSocket, Room, SocketNumber, is_quick, open_socket, recv_place, refuse_flags};
 use file_calls::{kept_answers, negative, or_again};
@@ -101,29 +102,29 @@ fn received(
 }
 
 impl Stage<'_> {
-    fn recv_udp(&mut self, place: usize, plan: RecvPlan) -> Result<u32, CallError>
-        ensures { Acts (spec.recv_udp place plan.at plan.n plan.from) self.old self.new result }
+    fn recv_udp(&mut self, place: usize, plan: RecvPlan) -> Result<Reaction, CallError>
+        ensures { Reacts (spec.recv_udp place plan.at plan.n plan.from) self.old self.new result }
     {
         let datagram = self.sockets.recv_udp(place, counted(plan.n))?;
         fill(&mut self.task.memory, plan.at, datagram.bytes.as_slice());
         answer(&mut self.task.memory, plan.from, datagram.from);
-        Ok(datagram.bytes.len() as u32)
+        Ok(Reaction::Value(datagram.bytes.len() as u32))
     }
 
-    fn recv_tcp(&mut self, place: usize, plan: RecvPlan) -> Result<u32, CallError>
-        ensures { Acts (spec.recv_tcp self.old.time place plan.at plan.n plan.from) self.old self.new result }
+    fn recv_tcp(&mut self, place: usize, plan: RecvPlan) -> Result<Reaction, CallError>
+        ensures { Reacts (spec.recv_tcp self.old.time place plan.at plan.n plan.from) self.old self.new result }
     {
         let RecvPlan { at, n, from, .. } = plan;
         let reply = self
             .sockets
             .recv_tcp(&mut self.shared.outlet, self.time, place, counted(n))?;
         let count = received(place, at, from, reply, &mut self.task.memory, self.sockets);
-        Ok(count)
+        Ok(Reaction::Value(count))
     }
 
     /// Receives on a socket (`recv(2)`).
-    pub(crate) fn recv(&mut self, plan: RecvPlan) -> Result<u32, CallError>
-        ensures { Acts (spec.receives self.old.time plan) self.old self.new result }
+    pub(crate) fn recv(&mut self, plan: RecvPlan) -> Result<Reaction, CallError>
+        ensures { Reacts (spec.receives self.old.time plan) self.old self.new result }
     {
         match plan.number {
             SocketNumber::Udp(place) => self.recv_udp(place, plan),

@@ -4,8 +4,9 @@ ghost use Rattle.std.specs.Prelude.{◌≡◌, ◌≤◌};
 ghost use Rattle.host_sockets.specs.Moving.{count_of};
 ghost use Rattle.guest_args.specs.Span.{most};
 ghost use Rattle.host_calls.specs.Sockets as spec;
-ghost use Rattle.host_calls.specs.inside.Stage.{Acts, Sees};
+ghost use Rattle.host_calls.specs.inside.Stage.{Reacts, Sees};
 
+use crate::parts::Reaction;
 use crate::stage::{Stage, View};
 use call_parts::{
     Message, OpenSocket, SocketNumber, given_address, is_quick, open_socket, refuse_flags,
@@ -52,8 +53,8 @@ fn value_of(reply: Reply<usize>) -> u32
 }
 
 impl Stage<'_> {
-    fn send_udp(&mut self, datagram: DatagramSend) -> Result<u32, CallError>
-        ensures { Acts (spec.send_udp self.old.known.now.book datagram.place datagram.message) self.old self.new result }
+    fn send_udp(&mut self, datagram: DatagramSend) -> Result<Reaction, CallError>
+        ensures { Reacts (spec.send_udp self.old.known.now.book datagram.place datagram.message) self.old self.new result }
     {
         let DatagramSend { place, message } = datagram;
         let given = message.to_at != 0;
@@ -67,11 +68,11 @@ impl Stage<'_> {
             .sockets
             .send_udp(&self.known.book, place, bytes.as_slice(), to)?;
         self.shared.outlet.send(packet)?;
-        Ok(bytes.len() as u32)
+        Ok(Reaction::Value(bytes.len() as u32))
     }
 
-    fn send_tcp(&mut self, stream: StreamSend) -> Result<u32, CallError>
-        ensures { Acts (spec.send_tcp self.old.known.now.book self.old.time stream) self.old self.new result }
+    fn send_tcp(&mut self, stream: StreamSend) -> Result<Reaction, CallError>
+        ensures { Reacts (spec.send_tcp self.old.known.now.book self.old.time stream) self.old self.new result }
     {
         let StreamSend {
             place,
@@ -89,12 +90,12 @@ impl Stage<'_> {
         let outlet = &mut self.shared.outlet;
         let sockets = &mut *self.sockets;
         let reply = sockets.send_tcp(hosts, outlet, now, place, bytes.as_slice(), to, quiet)?;
-        Ok(value_of(reply))
+        Ok(Reaction::Value(value_of(reply)))
     }
 
     /// Sends on a socket (`send(2)`).
-    pub(crate) fn send(&mut self, sending: SendPlan) -> Result<u32, CallError>
-        ensures { Acts (spec.sends_by self.old.known.now.book self.old.time sending) self.old self.new result }
+    pub(crate) fn send(&mut self, sending: SendPlan) -> Result<Reaction, CallError>
+        ensures { Reacts (spec.sends_by self.old.known.now.book self.old.time sending) self.old self.new result }
     {
         match sending {
             SendPlan::Datagram(datagram) => self.send_udp(datagram),

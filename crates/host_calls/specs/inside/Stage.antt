@@ -1,13 +1,15 @@
 -- What a call acts on, and what one sees that is asked what it would do: the scene that they show.
-use Rattle.std.specs.Prelude.{◌≡◌, Result}
+use Rattle.std.specs.Prelude.{◌≡◌, ℕ, Result}
 use Rattle.host_wants.specs.declared.error.Refusal.{Refusal}
 use Rattle.host_wants.specs.declared.error.CallError.{CallError}
 use Rattle.host_sockets.specs.Sockets.{SocketsRecord}
 use Rattle.host_sockets.specs.StandsFor.{Stand}
 use Rattle.file_calls.specs.Scene.{Local}
 use Rattle.host_calls.specs.declared.parts.Answer.{Answer}
+use Rattle.host_calls.specs.declared.parts.Reaction.{Reaction}
 use Rattle.host_calls.specs.declared.stage.Stage.{Stage}
 use Rattle.host_calls.specs.declared.stage.View.{View}
+use Rattle.host_calls.specs.Calls.{reacts}
 use Rattle.host_calls.specs.inside.Calls.{SceneCalled}
 use Rattle.host_calls.specs.Parts.{Scene, scene, Answers}
 
@@ -32,6 +34,10 @@ pub record Stays (old new : Stage) : Type 0 where
 abbrev pub Acts : {A : Type 0} → (Scene → Result (A × Scene) Refusal) → Stage → Stage → Result A CallError → Type 0
 Acts row old new answer =
     Stays old new × ((t : SocketsRecord) → Stand old.sockets.now t → Answers (row (scene_on old t)) (local_on old) t (local_on new) new.sockets.now answer)
+
+-- where its row answers a value
+abbrev pub Reacts : (Scene → Result (ℕ × Scene) Refusal) → Stage → Stage → Result Reaction CallError → Type 0
+Reacts row old new answer = Acts (λ s. reacts (row s)) old new answer
 
 -- what a guest's call answers and leaves there
 abbrev pub Called : Answer × Scene → Answer → Stage → Type 0
