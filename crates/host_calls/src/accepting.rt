@@ -4,10 +4,12 @@ ghost use Rattle.std.specs.Prelude.{◌≡◌, ◌<◌, None, IfOk};
 ghost use Rattle.std.specs.FinMap as map;
 ghost use Rattle.host_fds.specs.Descriptors.{limit};
 ghost use Rattle.file_calls.specs.Descriptors.{IsFree};
+ghost use Rattle.host_calls.specs.declared.plan.Plan.TheVariants as plan;
 ghost use Rattle.host_calls.specs.Sockets as spec;
-ghost use Rattle.host_calls.specs.inside.Stage.{Reacts, Sees};
+ghost use Rattle.host_calls.specs.inside.Stage.{Reacts, Sees, SeesPlan, CanDo};
 
 use crate::parts::Reaction;
+use crate::plan::Plan;
 use crate::stage::{Stage, View};
 use call_parts::{OpenSocket, open_socket, result_address, tcp_number};
 use file_calls::{lowest_free, open, or_again};
@@ -44,25 +46,20 @@ impl View<'_> {
         }
     }
 
-    fn accept_plan_of(
-        &self,
-        socket: OpenSocket,
-        at: u32,
-        size_at: u32,
-    ) -> Result<AcceptPlan, Refusal>
-        ensures asked { Sees (λ s. spec.accept_plan_of socket at size_at s.task s.sockets) self.now result }
-        ensures fits { IfOk result (λ a. IsFree a.new.fd self.now.task.now.table) }
+    fn accept_plan_of(&self, socket: OpenSocket, at: u32, size_at: u32) -> Result<Plan, Refusal>
+        ensures asked { SeesPlan plan.Accept (λ s. spec.accept_plan_of socket at size_at s.task s.sockets) self.now result }
+        ensures fits { CanDo result self.now }
     {
         let listener = tcp_number(socket.number)?;
         let new = self.accept_place(listener, at, size_at)?;
         or_again(socket.nonblocking, self.sockets.accept_ready(listener))?;
-        Ok(AcceptPlan { listener, new })
+        Ok(Plan::Accept(AcceptPlan { listener, new }))
     }
 
     /// What refuses an accept, and whether it waits.
-    pub(crate) fn accept_plan(&self, fd: u32, at: u32, size_at: u32) -> Result<AcceptPlan, Refusal>
-        ensures asked { Sees (spec.accept_plan fd at size_at) self.now result }
-        ensures fits { IfOk result (λ a. IsFree a.new.fd self.now.task.now.table) }
+    pub(crate) fn accept_plan(&self, fd: u32, at: u32, size_at: u32) -> Result<Plan, Refusal>
+        ensures asked { SeesPlan plan.Accept (spec.accept_plan fd at size_at) self.now result }
+        ensures fits { CanDo result self.now }
     {
         let socket = open_socket(fd, self.task, self.shared)?;
         self.accept_plan_of(socket, at, size_at)

@@ -1,10 +1,12 @@
 //! connect.
 
 ghost use Rattle.std.specs.Prelude.{◌≡◌};
+ghost use Rattle.host_calls.specs.declared.plan.Plan.TheVariants as plan;
 ghost use Rattle.host_calls.specs.Sockets as spec;
-ghost use Rattle.host_calls.specs.inside.Stage.{Acts, Sees};
+ghost use Rattle.host_calls.specs.inside.Stage.{Acts, Sees, SeesPlan, CanDo};
 
 use crate::parts::Reaction;
+use crate::plan::Plan;
 use crate::stage::{Stage, View};
 use call_parts::{OpenSocket, SocketNumber, address, open_socket};
 use file_calls::{kept_answers, negative};
@@ -110,11 +112,12 @@ impl View<'_> {
     }
 
     /// What a connect waits for that has sent its SYN.
-    pub(crate) fn connect_plan(&self, fd: u32, at: u32, size: u32) -> Result<ConnectPlan, Refusal>
-        ensures { Sees (spec.connect_plan fd at size) self.now result }
+    pub(crate) fn connect_plan(&self, fd: u32, at: u32, size: u32) -> Result<Plan, Refusal>
+        ensures asked { SeesPlan plan.Connect (spec.connect_plan fd at size) self.now result }
+        ensures fits { CanDo result self.now }
     {
         let socket = open_socket(fd, self.task, self.shared)?;
         self.connect_ready(socket.number)?;
-        Ok(ConnectPlan { socket, at, size })
+        Ok(Plan::Connect(ConnectPlan { socket, at, size }))
     }
 }

@@ -5,11 +5,13 @@ ghost use Rattle.sim_base.specs.Units.{latest_time};
 ghost use Rattle.host_sockets.specs.Sockets.{SocketsRecord};
 ghost use Rattle.host_sockets.specs.StandsFor.{Stand};
 ghost use Rattle.host_files.specs.Epolls.{epoll_at};
+ghost use Rattle.host_calls.specs.declared.plan.Plan.TheVariants as plan;
 ghost use Rattle.host_calls.specs.Epoll as spec;
 ghost use Rattle.host_calls.specs.Ready.{some_due as any_due};
-ghost use Rattle.host_calls.specs.inside.Stage.{Reacts, Sees, scene_in};
+ghost use Rattle.host_calls.specs.inside.Stage.{Reacts, Sees, SeesPlan, CanDo, scene_in};
 
 use crate::parts::Reaction;
+use crate::plan::Plan;
 use crate::stage::{Stage, View};
 use call_parts::{WaitPlan, is_any_seen, put_seen, tell, wait_deadline, wait_place, waits_unless};
 use host_fds::{Seen, Watch};
@@ -29,21 +31,16 @@ impl View<'_> {
     }
 
     /// What refuses an `epoll_pwait(2)`, and whether it waits. It takes no memory.
-    pub(crate) fn wait_plan(
-        &self,
-        epfd: u32,
-        at: u32,
-        count: u32,
-        ms: u32,
-    ) -> Result<WaitPlan, Refusal>
+    pub(crate) fn wait_plan(&self, epfd: u32, at: u32, count: u32, ms: u32) -> Result<Plan, Refusal>
         requires { self.now.time.nanos ≤ latest_time }
-        ensures { Sees (spec.wait_plan self.now.time epfd at count ms) self.now result }
+        ensures asked { SeesPlan plan.EpollWait (spec.wait_plan self.now.time epfd at count ms) self.now result }
+        ensures fits { CanDo result self.now }
     {
         let now = self.time;
         let waiting = wait_place(epfd, at, count, self.task, self.shared)?;
         let deadline = wait_deadline(now, ms, self.task);
         waits_unless(now, deadline, self.has_due(waiting.place))?;
-        Ok(waiting)
+        Ok(Plan::EpollWait(waiting))
     }
 
     /// What a wait has to know of some entries, up to the last that is due: what is seen of those that are due, and nothing

@@ -2,11 +2,13 @@
 
 ghost use Rattle.std.specs.Prelude.{◌≡◌, ◌*◌, ◌≤◌, length, Ok, Err, IfOk};
 ghost use Rattle.sim_base.specs.Units.{latest_time};
-ghost use Rattle.host_calls.specs.inside.Stage.{Reacts, Sees};
+ghost use Rattle.host_calls.specs.inside.Stage.{Reacts, Sees, SeesPlan, CanDo};
 ghost use Rattle.call_parts.specs.Polling.{entry_size, max_entries};
 ghost use Rattle.host_calls.specs.Polling as spec;
+ghost use Rattle.host_calls.specs.declared.plan.Plan.TheVariants as plan;
 
 use crate::parts::Reaction;
+use crate::plan::Plan;
 use crate::stage::{Stage, View};
 use call_parts::{
     asked_events, asked_fd, count_one, entry_at, has_come, poll_deadline, poll_entries,
@@ -113,10 +115,10 @@ impl View<'_> {
     }
 
     /// What refuses a poll, and whether it waits.
-    pub(crate) fn poll_plan(&self, at: u32, count: u32, limit_at: u32) -> Result<PollPlan, Refusal>
+    pub(crate) fn poll_plan(&self, at: u32, count: u32, limit_at: u32) -> Result<Plan, Refusal>
         requires { self.now.time.nanos ≤ latest_time }
-        ensures asked { Sees (spec.poll_plan self.now.time at count limit_at) self.now result }
-        ensures fits { IfOk result (λ p. p.count ≤ max_entries) }
+        ensures asked { SeesPlan plan.Poll (spec.poll_plan self.now.time at count limit_at) self.now result }
+        ensures fits { CanDo result self.now }
     {
         if count > MOST {
             return Err(Refusal::Errno(Errno::Einval));
@@ -136,16 +138,16 @@ impl View<'_> {
         count: u32,
         limit_at: u32,
         entries: &mut [u8],
-    ) -> Result<PollPlan, Refusal>
+    ) -> Result<Plan, Refusal>
         requires time { self.now.time.nanos ≤ latest_time }
         requires count { count ≤ max_entries }
         requires length { length entries.old ≡ entry_size * count }
-        ensures asked { Sees (spec.poll_plan self.now.time at count limit_at) self.now result }
-        ensures fits { IfOk result (λ p. p.count ≤ max_entries) }
+        ensures asked { SeesPlan plan.Poll (spec.poll_plan self.now.time at count limit_at) self.now result }
+        ensures fits { CanDo result self.now }
     {
         poll_entries(at, entries, &self.task.memory)?;
         let found = self.poll_found(count as usize, limit_at, entries)?;
-        Ok(PollPlan { at, count, found })
+        Ok(Plan::Poll(PollPlan { at, count, found }))
     }
 }
 

@@ -6,10 +6,12 @@ ghost use Rattle.host_sockets.specs.Names.{tcp_peer};
 ghost use Rattle.host_sockets.specs.Sockets.{SocketsRecord};
 ghost use Rattle.host_sockets.specs.StandsFor.{Stand};
 ghost use Rattle.guest_args.specs.Span.{most};
+ghost use Rattle.host_calls.specs.declared.plan.Plan.TheVariants as plan;
 ghost use Rattle.host_calls.specs.Sockets as spec;
-ghost use Rattle.host_calls.specs.inside.Stage.{Reacts, Sees};
+ghost use Rattle.host_calls.specs.inside.Stage.{Reacts, SeesPlan, CanDo};
 
 use crate::parts::Reaction;
+use crate::plan::Plan;
 use crate::stage::{Stage, View};
 use call_parts::{OpenSocket, Room, SocketNumber, is_quick, open_socket, recv_place, refuse_flags};
 use file_calls::{kept_answers, negative, or_again};
@@ -45,24 +47,26 @@ impl View<'_> {
         socket: OpenSocket,
         flags: u32,
         room: Room,
-    ) -> Result<RecvPlan, Refusal>
-        ensures { Sees (λ s. spec.recv_plan socket flags room s.task.memory s.sockets) self.now result }
+    ) -> Result<Plan, Refusal>
+        ensures asked { SeesPlan plan.Receive (λ s. spec.recv_plan socket flags room s.task.memory s.sockets) self.now result }
+        ensures fits { CanDo result self.now }
     {
         refuse_flags(flags)?;
         let from = recv_place(room, &self.task.memory)?;
         let quick = is_quick(socket.nonblocking, flags);
         or_again(quick, recv_ready(socket.number, self.sockets))?;
-        Ok(RecvPlan {
+        Ok(Plan::Receive(RecvPlan {
             number: socket.number,
             at: room.at,
             n: room.n,
             from,
-        })
+        }))
     }
 
     /// What refuses a `recvfrom(2)`, and whether it waits.
-    pub(crate) fn recvfrom_plan(&self, fd: u32, flags: u32, room: Room) -> Result<RecvPlan, Refusal>
-        ensures { Sees (spec.recvfrom_plan fd flags room) self.now result }
+    pub(crate) fn recvfrom_plan(&self, fd: u32, flags: u32, room: Room) -> Result<Plan, Refusal>
+        ensures asked { SeesPlan plan.Receive (spec.recvfrom_plan fd flags room) self.now result }
+        ensures fits { CanDo result self.now }
     {
         let socket = open_socket(fd, self.task, self.shared)?;
         self.recv_plan(socket, flags, room)

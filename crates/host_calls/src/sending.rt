@@ -3,10 +3,12 @@
 ghost use Rattle.std.specs.Prelude.{◌≡◌, ◌≤◌};
 ghost use Rattle.host_sockets.specs.Moving.{count_of};
 ghost use Rattle.guest_args.specs.Span.{most};
+ghost use Rattle.host_calls.specs.declared.plan.Plan.TheVariants as plan;
 ghost use Rattle.host_calls.specs.Sockets as spec;
-ghost use Rattle.host_calls.specs.inside.Stage.{Reacts, Sees};
+ghost use Rattle.host_calls.specs.inside.Stage.{Reacts, SeesPlan, CanDo};
 
 use crate::parts::Reaction;
+use crate::plan::Plan;
 use crate::stage::{Stage, View};
 use call_parts::{
     Message, OpenSocket, SocketNumber, given_address, is_quick, open_socket, refuse_flags,
@@ -111,8 +113,9 @@ impl View<'_> {
         nonblocking: bool,
         quiet: bool,
         message: Message,
-    ) -> Result<SendPlan, Refusal>
-        ensures { Sees (λ s. spec.send_tcp_plan self.now.known.now.book place nonblocking quiet message s.task.memory s.sockets) self.now result }
+    ) -> Result<Plan, Refusal>
+        ensures asked { SeesPlan plan.Send (λ s. spec.send_tcp_plan self.now.known.now.book place nonblocking quiet message s.task.memory s.sockets) self.now result }
+        ensures fits { CanDo result self.now }
     {
         let Message { at, n, to_at, size } = message;
         if !self.task.memory.is_open(Right::Read, at, counted(n)) {
@@ -123,13 +126,14 @@ impl View<'_> {
             .sockets
             .send_asked(&self.known.book, place, counted(n), to, quiet);
         or_again(nonblocking, kept_answers(asked))?;
-        Ok(SendPlan::Stream(StreamSend {
+        let stream = StreamSend {
             place,
             quiet,
             to,
             at,
             n,
-        }))
+        };
+        Ok(Plan::Send(SendPlan::Stream(stream)))
     }
 
     fn send_plan_of(
@@ -138,11 +142,15 @@ impl View<'_> {
         nonblocking: bool,
         quiet: bool,
         message: Message,
-    ) -> Result<SendPlan, Refusal>
-        ensures { Sees (λ s. spec.send_plan_of self.now.known.now.book number nonblocking quiet message s.task.memory s.sockets) self.now result }
+    ) -> Result<Plan, Refusal>
+        ensures asked { SeesPlan plan.Send (λ s. spec.send_plan_of self.now.known.now.book number nonblocking quiet message s.task.memory s.sockets) self.now result }
+        ensures fits { CanDo result self.now }
     {
         match number {
-            SocketNumber::Udp(place) => Ok(SendPlan::Datagram(DatagramSend { place, message })),
+            SocketNumber::Udp(place) => {
+                let datagram = DatagramSend { place, message };
+                Ok(Plan::Send(SendPlan::Datagram(datagram)))
+            }
             SocketNumber::Tcp(place) => self.send_tcp_plan(place, nonblocking, quiet, message),
         }
     }
@@ -153,8 +161,9 @@ impl View<'_> {
         socket: OpenSocket,
         flags: u32,
         message: Message,
-    ) -> Result<SendPlan, Refusal>
-        ensures { Sees (λ s. spec.send_plan self.now.known.now.book socket flags message s.task.memory s.sockets) self.now result }
+    ) -> Result<Plan, Refusal>
+        ensures asked { SeesPlan plan.Send (λ s. spec.send_plan self.now.known.now.book socket flags message s.task.memory s.sockets) self.now result }
+        ensures fits { CanDo result self.now }
     {
         refuse_flags(flags)?;
         let quick = is_quick(socket.nonblocking, flags);
@@ -163,13 +172,9 @@ impl View<'_> {
     }
 
     /// What refuses a `sendto(2)`, and whether it waits.
-    pub(crate) fn sendto_plan(
-        &self,
-        fd: u32,
-        flags: u32,
-        message: Message,
-    ) -> Result<SendPlan, Refusal>
-        ensures { Sees (spec.sendto_plan self.now.known.now.book fd flags message) self.now result }
+    pub(crate) fn sendto_plan(&self, fd: u32, flags: u32, message: Message) -> Result<Plan, Refusal>
+        ensures asked { SeesPlan plan.Send (spec.sendto_plan self.now.known.now.book fd flags message) self.now result }
+        ensures fits { CanDo result self.now }
     {
         let socket = open_socket(fd, self.task, self.shared)?;
         self.send_plan(socket, flags, message)

@@ -1,5 +1,6 @@
 -- What a call acts on, and what one sees that is asked what it would do: the scene that they show.
-use Rattle.std.specs.Prelude.{◌≡◌, ℕ, Result}
+use Rattle.std.specs.Prelude.{◌≡◌, ℕ, Result, Ok, IfOk}
+use Rattle.sim_base.specs.Refusals.{◌>>=◌}
 use Rattle.host_wants.specs.declared.error.Refusal.{Refusal}
 use Rattle.host_wants.specs.declared.error.CallError.{CallError}
 use Rattle.host_sockets.specs.Sockets.{SocketsRecord}
@@ -7,9 +8,10 @@ use Rattle.host_sockets.specs.StandsFor.{Stand}
 use Rattle.file_calls.specs.Scene.{Local}
 use Rattle.host_calls.specs.declared.parts.Answer.{Answer}
 use Rattle.host_calls.specs.declared.parts.Reaction.{Reaction}
+use Rattle.host_calls.specs.declared.plan.Plan.{Plan}
 use Rattle.host_calls.specs.declared.stage.Stage.{Stage}
 use Rattle.host_calls.specs.declared.stage.View.{View}
-use Rattle.host_calls.specs.Calls.{reacts}
+use Rattle.host_calls.specs.Calls.{reacts, Fits}
 use Rattle.host_calls.specs.inside.Calls.{SceneCalled}
 use Rattle.host_calls.specs.Parts.{Scene, scene, Answers}
 
@@ -59,3 +61,10 @@ scene_in v t = scene (v.task.now, v.shared.now) t
 
 abbrev pub Sees : {A : Type 0} → (Scene → A) → View → A → Type 0
 Sees told v answer = (t : SocketsRecord) → Stand v.sockets.now t → answer ≡ told (scene_in v t)
+
+-- what a call is told there that it would do, and that the code can do that
+abbrev pub SeesPlan : {A : Type 0} → (A → Plan) → (Scene → Result A Refusal) → View → Result Plan Refusal → Type 0
+SeesPlan plan asked v answer = Sees (λ s. asked s >>= λ a. Ok (plan a)) v answer
+
+abbrev pub CanDo : Result Plan Refusal → View → Type 0
+CanDo answer v = IfOk answer (λ plan. Fits plan v.task.now)
