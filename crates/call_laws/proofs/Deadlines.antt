@@ -18,7 +18,8 @@ use Rattle.file_calls.specs.declared.task.Task.{Task}
 use Rattle.file_calls.specs.declared.task.Shared.{Shared}
 use Rattle.file_calls.specs.declared.task.Why.{Why}
 use Rattle.call_parts.specs.Call.{call_of}
-use Rattle.host_calls.specs.Calls.{arg, asked, waits, scene_at, answers_by, answers}
+use Rattle.host_calls.specs.Calls.{asked, waits, scene_at, answers_by, answers}
+use Rattle.call_parts.specs.Plain.{arg}
 use Rattle.call_laws.specs.Laws.{kept_by, kept_call, takes_time}
 use Rattle.host_files.specs.Epolls.{epoll_at}
 use Rattle.call_parts.specs.Epoll.{is_negative, time_of_ms, wait_deadline, wait_place}

@@ -25,7 +25,8 @@ use Rattle.call_parts.specs.declared.sockets.SocketNumber.{SocketNumber}
 use Rattle.call_parts.specs.Call.{call_of}
 use Rattle.file_calls.specs.Times.{sleep_asked}
 use Rattle.std.specs.Prelude.{IfOk}
-use Rattle.host_calls.specs.Calls.{arg, message_of, room_of, open_by, plain_row, read_plan_of, write_plan_of, asked, done, network_row, row_of, waits, answered, blocks_by, in_scene, call_scene, call_by, scene_at, answers_scene, answers_by, call, answers}
+use Rattle.host_calls.specs.Calls.{message_of, room_of, open_by, read_plan_of, write_plan_of, asked, done, network_row, row_of, waits, answered, blocks_by, in_scene, call_scene, call_by, scene_at, answers_scene, answers_by, call, answers}
+use Rattle.call_parts.specs.Plain.{arg, plain_row}
 use Rattle.host_calls.specs.Closing.{close}
 use Rattle.file_calls.specs.Descriptors.{descriptor}
 use Rattle.host_calls.specs.Epoll.{wait_plan}

@@ -19,7 +19,8 @@ use Rattle.host_calls.specs.declared.parts.Reaction.TheVariants.{Value, Waits}
 use Rattle.host_calls.specs.declared.plan.Plan.TheVariants as plan
 use Rattle.sim_base.specs.declared.time.Time.{Time}
 use Rattle.sim_base.proofs.RefusalLemmas.{bind_ok_by, then_ok}
-use Rattle.host_calls.specs.Calls.{arg, reacts, done, waiting_row}
+use Rattle.host_calls.specs.Calls.{reacts, done, waiting_row}
+use Rattle.call_parts.specs.Plain.{arg}
 use Rattle.file_calls.specs.declared.task.Task.{Task}
 use Rattle.file_calls.specs.declared.task.Shared.{Shared}
 use Rattle.call_parts.specs.declared.sockets.OpenSocket.{OpenSocket}

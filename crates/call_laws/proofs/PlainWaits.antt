@@ -16,7 +16,7 @@ use Rattle.guest_args.specs.Span.{span}
 use Rattle.guest_args.specs.Time.{timespec}
 use Rattle.host_timers.specs.declared.clock.Moment.{Moment}
 use Rattle.file_calls.specs.declared.times.Setting.{Setting}
-use Rattle.host_calls.specs.Calls.{arg, plain_row}
+use Rattle.call_parts.specs.Plain.{arg, plain_row}
 use Rattle.file_calls.specs.declared.controlling.Operation.{Operation}
 use Rattle.file_calls.specs.declared.controlling.Operation.TheVariants as operation
 use Rattle.host_files.specs.Epolls.{epoll_at}

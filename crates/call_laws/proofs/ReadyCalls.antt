@@ -39,7 +39,8 @@ use Rattle.call_parts.specs.declared.messages.Message.{Message}
 use Rattle.call_parts.specs.declared.sockets.OpenSocket.{OpenSocket}
 use Rattle.call_parts.specs.declared.sockets.SocketNumber.{SocketNumber}
 use Rattle.call_parts.specs.declared.sockets.SocketNumber.TheVariants as number
-use Rattle.host_calls.specs.Calls.{arg, message_of, room_of, open_by, read_plan_of, write_plan_of, asked, waits}
+use Rattle.host_calls.specs.Calls.{message_of, room_of, open_by, read_plan_of, write_plan_of, asked, waits}
+use Rattle.call_parts.specs.Plain.{arg}
 use Rattle.file_calls.specs.Descriptors.{descriptor}
 use Rattle.file_calls.specs.Files.{may_read, wait_to_read, transfer, may_write, wait_to_write}
 use Rattle.file_calls.specs.EpollControl.{epoll_number, event_size}

@@ -19,7 +19,7 @@ use Rattle.host_sockets.specs.Sockets.{SocketsRecord}
 use Rattle.host_wants.specs.Wanted.{Wanted}
 use Rattle.host_sockets.specs.TcpActs.{acts_at}
 use Rattle.host_sockets.specs.Connecting.{error_takes}
-use Rattle.host_calls.specs.Calls.{arg}
+use Rattle.call_parts.specs.Plain.{arg}
 use Rattle.call_parts.specs.Epoll.{is_negative}
 use Rattle.host_calls.specs.Parts.{PartsRecord}
 

@@ -23,7 +23,8 @@ use Rattle.file_calls.specs.declared.known.Known.{Known}
 use Rattle.file_calls.specs.declared.task.Why.{Why}
 use Rattle.host_calls.specs.declared.plan.Plan.{Plan}
 use Rattle.call_parts.specs.Call.{call_of}
-use Rattle.host_calls.specs.Calls.{arg, asked, answers_scene}
+use Rattle.host_calls.specs.Calls.{asked, answers_scene}
+use Rattle.call_parts.specs.Plain.{arg}
 use Rattle.file_calls.specs.Descriptors.{descriptor}
 use Rattle.call_parts.specs.Epoll.{wait_deadline}
 use Rattle.file_calls.specs.Eventfd.{number_at}

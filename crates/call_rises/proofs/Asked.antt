@@ -45,7 +45,8 @@ use Rattle.file_calls.specs.declared.known.Known.{Known}
 use Rattle.host_calls.specs.declared.plan.Plan.{Plan}
 use Rattle.host_calls.specs.declared.plan.Plan.TheVariants as plan
 use Rattle.call_parts.specs.declared.sockets.SocketNumber.{SocketNumber}
-use Rattle.host_calls.specs.Calls.{arg, message_of, room_of, open_by, read_plan_of, write_plan_of, asked}
+use Rattle.host_calls.specs.Calls.{message_of, room_of, open_by, read_plan_of, write_plan_of, asked}
+use Rattle.call_parts.specs.Plain.{arg}
 use Rattle.host_calls.specs.Epoll.{wait_plan}
 use Rattle.host_calls.specs.Parts.{Scene, local_of}
 use Rattle.host_calls.specs.Polling.{poll_plan}

@@ -20,7 +20,7 @@ use Rattle.host_files.specs.Slots.{at}
 use Rattle.file_calls.specs.declared.task.Shared.{Shared}
 use Rattle.file_calls.specs.declared.task.Task.{Task}
 use Rattle.host_calls.specs.Parts.{PartsRecord, Slot, slot, with_slot}
-use Rattle.host_calls.specs.Starting.{fresh_task, std_file, starts}
+use Rattle.call_parts.specs.Starting.{fresh_task, std_file, starts}
 use Rattle.file_laws.proofs.Places.{set_same, set_other}
 use Rattle.call_rises.specs.Moves.{FilesMove}
 use Rattle.call_rises.specs.Sockets.{SocketsMove}

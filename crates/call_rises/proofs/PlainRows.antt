@@ -31,7 +31,7 @@ use Rattle.file_calls.specs.declared.task.Task.{Task}
 use Rattle.file_calls.specs.declared.transfer.Transfer.{Transfer}
 use Rattle.file_calls.specs.declared.times.OldTimer.{OldTimer}
 use Rattle.file_calls.specs.declared.times.Setting.{Setting}
-use Rattle.host_calls.specs.Calls.{arg, plain_row}
+use Rattle.call_parts.specs.Plain.{arg, plain_row}
 use Rattle.file_calls.specs.Descriptors.{descriptor, opens}
 use Rattle.file_calls.specs.EpollControl.{epoll_asked, epoll_file, new_epoll, epoll_create1, ctl_asked, changed, controlled, epoll_ctl}
 use Rattle.file_calls.specs.Eventfd.{eventfd_asked, eventfd_file, new_eventfd, eventfd2, number_of}

@@ -39,7 +39,8 @@ use Rattle.host_calls.specs.declared.plan.Plan.{Plan}
 use Rattle.host_calls.specs.declared.plan.Plan.TheVariants as plan
 use Rattle.host_calls.specs.declared.polling.PollPlan.{PollPlan}
 use Rattle.call_parts.specs.Call.{call_of}
-use Rattle.host_calls.specs.Calls.{arg, plain_row, reacts, network_row, asked, done, row, row_of, with_alarm, blocks_by, blocked, all_ended, cleared, answered, scene_at, call_by, call}
+use Rattle.host_calls.specs.Calls.{reacts, network_row, asked, done, row, row_of, with_alarm, blocks_by, blocked, all_ended, cleared, answered, scene_at, call_by, call}
+use Rattle.call_parts.specs.Plain.{arg, plain_row}
 use Rattle.host_calls.specs.Closing.{ends, without_epoll, closes, close, closed_by, closed_one, closed_below}
 use Rattle.file_calls.specs.Descriptors.{descriptor}
 use Rattle.host_calls.specs.Epoll.{seen_of, all_seen, told_of, epoll_waits}
@@ -51,7 +52,8 @@ use Rattle.host_calls.specs.Polling.{polled, polls}
 use Rattle.file_calls.specs.Scene.{Local}
 use Rattle.host_calls.specs.Ready.{seen}
 use Rattle.host_calls.specs.Sockets.{socket, bind, listen, getsockname, getpeername, getsockopt, shutdown, accepts, sends_by, receives}
-use Rattle.host_calls.specs.Starting.{starts, task_starts}
+use Rattle.host_calls.specs.Starting.{task_starts}
+use Rattle.call_parts.specs.Starting.{starts}
 use Rattle.file_calls.specs.Times.{at_nanos, rings_at, next_ring}
 use Rattle.socket_laws.specs.Histories.{SocketsAct as act}
 use Rattle.socket_laws.specs.Histories.{SocketsAct, sockets_acted}

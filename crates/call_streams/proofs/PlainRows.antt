@@ -33,7 +33,7 @@ use Rattle.file_calls.specs.Eventfd.{eventfd_asked, eventfd_file, new_eventfd, e
 use Rattle.file_calls.specs.Guest.{getpid, brk, words, words_in, random_count, random_told, getrandom}
 use Rattle.call_parts.specs.Sockets.{setsockopt_asked, setsockopt}
 use Rattle.file_calls.specs.Times.{at_nanos, clock_gettime, timer_file, new_timer, create_asked, timerfd_create, sets, set_by, old_timer, tell_setting, settime_asked, timerfd_settime}
-use Rattle.host_calls.specs.Calls.{arg, plain_row}
+use Rattle.call_parts.specs.Plain.{arg, plain_row}
 use Rattle.socket_laws.specs.Histories.{left_by}
 use Rattle.socket_streams.specs.Records.{packets_of}
 use Rattle.socket_streams.proofs.Wants.{alarm_packets}

@@ -41,7 +41,8 @@ use Rattle.host_files.specs.Epolls.{epoll_at}
 use Rattle.host_calls.specs.Epoll.{all_seen, told_of, epoll_waits}
 use Rattle.call_parts.specs.Polling.{entry_size, poll_entries}
 use Rattle.host_calls.specs.Polling.{polled, polls}
-use Rattle.host_calls.specs.Calls.{arg, plain_row, network_row, asked, done, row, row_of, with_alarm, blocks_by, blocked, all_ended, cleared, answered, scene_at, call_by, call}
+use Rattle.host_calls.specs.Calls.{network_row, asked, done, row, row_of, with_alarm, blocks_by, blocked, all_ended, cleared, answered, scene_at, call_by, call}
+use Rattle.call_parts.specs.Plain.{arg, plain_row}
 use Rattle.host_files.specs.Files.{timer_at}
 use Rattle.socket_laws.specs.Histories.{SocketsAct as act}
 use Rattle.socket_streams.specs.Records.{packets_of}

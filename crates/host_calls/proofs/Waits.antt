@@ -28,7 +28,8 @@ use Rattle.host_calls.specs.declared.parts.Reaction.TheVariants.{Value}
 use Rattle.file_calls.specs.declared.task.Shared.{Shared}
 use Rattle.file_calls.specs.declared.task.Task.{Task}
 use Rattle.host_calls.specs.declared.plan.Plan.TheVariants as plan
-use Rattle.host_calls.specs.Calls.{arg, reacts, done, waiting_row}
+use Rattle.host_calls.specs.Calls.{reacts, done, waiting_row}
+use Rattle.call_parts.specs.Plain.{arg}
 use Rattle.host_calls.specs.Epoll.{TellAlike, all_seen, told_of, wait_plan, epoll_waits, epoll_pwait}
 use Rattle.call_parts.specs.Epoll.{nothing_seen, up_to, event_bytes, telling}
 use Rattle.call_parts.proofs.Reports.{is_above}

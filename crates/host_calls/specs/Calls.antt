@@ -1,5 +1,5 @@
 -- The table of system calls: which row a number has, what its answer is to a guest, and whether one that waits would answer.
-use Rattle.std.specs.Prelude.{◌≡◌, ◌≤◌, ℕ, ◌%◌, Bool, true, false, not, List, slice_index, Option, Some, None, Result, Ok, Err}
+use Rattle.std.specs.Prelude.{◌≡◌, ◌≤◌, ℕ, ◌%◌, Bool, true, false, not, List, Option, Some, None, Result, Ok, Err}
 use Rattle.sim_base.specs.declared.errno.Errno.TheVariants.{Enosys}
 use Rattle.sim_base.specs.declared.alarm.AlarmTarget.TheVariants.{Process}
 use Rattle.sim_base.specs.declared.state.State.{State}
@@ -12,8 +12,6 @@ use Rattle.host_wants.specs.Wanted.{wants_alarm}
 use Rattle.host_calls.specs.declared.all.Parts.{Parts}
 use Rattle.call_parts.specs.declared.call.Call.{Call}
 use Rattle.call_parts.specs.declared.call.Call.TheVariants as system_call
-use Rattle.call_parts.specs.declared.call.PlainCall.{PlainCall}
-use Rattle.call_parts.specs.declared.call.PlainCall.TheVariants as plain
 use Rattle.call_parts.specs.declared.call.NetworkCall.{NetworkCall}
 use Rattle.call_parts.specs.declared.call.NetworkCall.TheVariants as network
 use Rattle.call_parts.specs.declared.call.WaitingCall.{WaitingCall}
@@ -34,25 +32,19 @@ use Rattle.call_parts.specs.declared.messages.Message.{Message}
 use Rattle.call_parts.specs.declared.sockets.OpenSocket.{OpenSocket}
 use Rattle.call_parts.specs.declared.sockets.SocketNumber.{SocketNumber}
 use Rattle.call_parts.specs.Call.{call_of}
+use Rattle.call_parts.specs.Plain.{arg, plain_row}
 use Rattle.host_calls.specs.Closing.{close, all_closed}
 use Rattle.file_calls.specs.Descriptors.{descriptor, IsFree}
-use Rattle.file_calls.specs.EpollControl.{epoll_create1, epoll_ctl}
 use Rattle.host_calls.specs.Epoll.{wait_plan, epoll_waits}
-use Rattle.file_calls.specs.Eventfd.{eventfd2}
-use Rattle.file_calls.specs.Files.{fcntl, openat, pipe2, file_read_plan, reads, file_write_plan, writes}
-use Rattle.file_calls.specs.Guest.{getpid, brk, getrandom}
+use Rattle.file_calls.specs.Files.{file_read_plan, reads, file_write_plan, writes}
 use Rattle.host_calls.specs.Parts.{PartsRecord, PartsStand, Slot, slot_of, slot_in, with_slot, Scene, scene, local_of, plainly}
 use Rattle.call_parts.specs.Polling.{max_entries}
 use Rattle.host_calls.specs.Polling.{poll_plan, polls}
 use Rattle.file_calls.specs.Scene.{Local, negative}
 use Rattle.host_calls.specs.Sockets.{socket, bind, listen, accept_plan, accepts, connect_plan, connects, getsockname, getpeername, send_plan, sendto_plan, sends_by, recv_plan, recvfrom_plan, receives, getsockopt, shutdown}
-use Rattle.call_parts.specs.Sockets.{socket_number, setsockopt}
-use Rattle.file_calls.specs.Times.{clock_gettime, sleep_asked, timerfd_create, timerfd_settime}
+use Rattle.call_parts.specs.Sockets.{socket_number}
+use Rattle.file_calls.specs.Times.{sleep_asked}
 use Rattle.sim_base.specs.Refusals.{◌>>=◌, ◌>>◌}
-
--- argument n of six
-abbrev pub arg : List ℕ → ℕ → ℕ
-arg args n = slice_index args n
 
 -- the arguments that say what is sent, and where what is received goes
 abbrev pub message_of : ℕ → ℕ → ℕ → ℕ → Message
@@ -60,25 +52,6 @@ message_of at n to_at size = record { at = at; n = n; to_at = to_at; size = size
 
 abbrev pub room_of : ℕ → ℕ → ℕ → ℕ → Room
 room_of at n from_at size_at = record { at = at; n = n; from_at = from_at; size_at = size_at }
-
--- rows that can't refuse
-abbrev pub answers_brk : ℕ × Task → Shared → Result (ℕ × Local) Refusal
-answers_brk (value, task) shared = Ok (value, (task, shared))
-
-abbrev pub plain_row : Time → ℕ → PlainCall → List ℕ → Local → Result (ℕ × Local) Refusal
-plain_row now process plain.Eventfd2 args s = eventfd2 (arg args 0) (arg args 1) s
-plain_row now process plain.EpollCreate args s = epoll_create1 (arg args 0) s
-plain_row now process plain.EpollCtl args s = epoll_ctl (arg args 0) (arg args 1) (arg args 2) (arg args 3) s
-plain_row now process plain.Fcntl args s = fcntl (arg args 0) (arg args 1) (arg args 2) s
-plain_row now process plain.Openat args s = openat (arg args 1) (arg args 2) s
-plain_row now process plain.Pipe2 args s = pipe2 (arg args 0) (arg args 1) s
-plain_row now process plain.TimerfdCreate args s = timerfd_create (arg args 0) (arg args 1) s
-plain_row now process plain.Getpid args s = Ok (getpid process, s)
-plain_row now process plain.Setsockopt args s = setsockopt (arg args 0) (arg args 1) (arg args 2) (arg args 3) (arg args 4) s
-plain_row now process plain.Brk args (task, shared) = answers_brk (brk (arg args 0) task) shared
-plain_row now process plain.Getrandom args s = getrandom (arg args 0) (arg args 1) (arg args 2) s
-plain_row now process plain.ClockGettime args s = clock_gettime now (arg args 0) (arg args 1) s
-plain_row now process plain.TimerfdSettime args s = timerfd_settime now (arg args 0) (arg args 1) (arg args 2) (arg args 3) s
 
 -- a row that answers a value
 abbrev pub reacts : Result (ℕ × Scene) Refusal → Result (Reaction × Scene) Refusal

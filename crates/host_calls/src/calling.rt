@@ -9,56 +9,16 @@ ghost use Rattle.host_calls.specs.inside.Calls as inside;
 ghost use Rattle.host_calls.specs.Parts.{Answers, PartsRecord, PartsStand, scene, Scene, local_of};
 ghost use Rattle.host_calls.specs.Parts.{slot as slot_at, Leaves};
 ghost use Rattle.host_calls.specs.inside.Stage.{Stays, Acts, Called, local_on, scene_on};
-ghost use Rattle.file_calls.specs.Scene.{Does};
 
 use crate::all::Parts;
 use crate::closing::close_task;
 use crate::parts::{Answer, Reaction};
 use crate::stage::Stage;
-use call_parts::{Call, NetworkCall, PlainCall, WaitingCall, setsockopt};
-use file_calls::{
-    Known, Shared, Task, Why, brk, clock_gettime, epoll_create, epoll_ctl, eventfd2, fcntl, getpid,
-    getrandom, negative, openat, pipe2, timerfd_create, timerfd_settime,
-};
+use call_parts::{Call, NetworkCall, WaitingCall, plain_row};
+use file_calls::{Known, Shared, Task, Why, negative};
 use host_sockets::Sockets;
 use host_wants::{CallError, Refusal};
 use sim_base::{AlarmTarget, Errno, NoMemory, State, Time};
-
-/// The row of a call that needs no sockets.
-fn plain_row(
-    now: Time,
-    process: u32,
-    call: PlainCall,
-    args: [u32; 6],
-    task: &mut Task,
-    shared: &mut Shared,
-) -> Result<u32, CallError>
-    requires { now.nanos ≤ latest_time }
-    ensures { Does (spec.plain_row now process call args (task.old, shared.old)) (task.old, shared.old) (task.new, shared.new) result }
-{
-    match call {
-        PlainCall::Eventfd2 => eventfd2(task, shared, args[0], args[1]),
-        PlainCall::EpollCreate => epoll_create(task, shared, args[0]),
-        PlainCall::EpollCtl => epoll_ctl(task, shared, args[0], args[1], args[2], args[3]),
-        PlainCall::Fcntl => fcntl(task, shared, args[0], args[1], args[2]),
-        PlainCall::Openat => openat(task, shared, args[1], args[2]),
-        PlainCall::Pipe2 => pipe2(task, shared, args[0], args[1]),
-        PlainCall::TimerfdCreate => timerfd_create(task, shared, args[0], args[1]),
-        PlainCall::Getpid => Ok(getpid(process)),
-        PlainCall::Setsockopt => setsockopt(
-            args[0], args[1], args[2], args[3], args[4], task, shared,
-        ),
-        PlainCall::Brk => {
-            let standing = brk(task, args[0])?;
-            Ok(standing)
-        }
-        PlainCall::Getrandom => getrandom(task, shared, args[0], args[1], args[2]),
-        PlainCall::ClockGettime => clock_gettime(task, shared, now, args[0], args[1]),
-        PlainCall::TimerfdSettime => {
-            timerfd_settime(task, shared, now, args[0], args[1], args[2], args[3])
-        }
-    }
-}
 
 impl Stage<'_> {
     /// The row of a call on sockets.

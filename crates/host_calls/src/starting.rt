@@ -2,44 +2,17 @@
 
 ghost use Rattle.std.specs.Prelude.{◌≡◌, ◌<◌, None, replicate, vec_len, IfOk, OnOk};
 ghost use Rattle.host_calls.specs.Parts.{PartsRecord, PartsStand};
-ghost use Rattle.file_calls.specs.Scene.{Is};
 ghost use Rattle.host_calls.specs.Starting as spec;
 
 use crate::all::Parts;
-use file_calls::{Outputs, Shared, Task, open};
+use call_parts::start;
+use file_calls::{Outputs, Shared, Task};
 use guest_mem::Mem;
-use host_fds::Table;
-use host_files::{Epolls, File, Files, Object};
+use host_files::Files;
 use host_sockets::Sockets;
 use host_wants::Outlet;
 use sim_base::{Draws, Ip, NoMemory};
 use std::alloc::Global;
-
-fn std_file(object: Object) -> File
-    ensures { result ≡ spec.std_file object }
-{
-    File {
-        nonblocking: false,
-        object,
-    }
-}
-
-/// A process with this memory, whose descriptors 0, 1 and 2 are its standard input, output and
-/// error.
-fn start(alloc: Global, memory: Mem, shared: &mut Shared) -> Result<Task, NoMemory>
-    ensures { IfOk result (λ task. Is (spec.starts memory shared.old) task shared.new) }
-{
-    let mut task = Task {
-        table: Table::new(alloc)?,
-        epolls: Epolls::new(alloc),
-        memory,
-        kept: None,
-    };
-    open(0, std_file(Object::Input), &mut task, shared)?;
-    open(1, std_file(Object::Output), &mut task, shared)?;
-    open(2, std_file(Object::Errors), &mut task, shared)?;
-    Ok(task)
-}
 
 /// A process starts with a memory: its descriptors 0, 1 and 2 are its standard input, output and
 /// error.

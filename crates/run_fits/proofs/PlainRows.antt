@@ -19,7 +19,7 @@ use Rattle.file_calls.specs.declared.transfer.Transfer.{Transfer}
 use Rattle.guest_args.specs.Span.{can_write, counted}
 use Rattle.guest_args.specs.Time.{time_span, timespec_of, timespec_size}
 use Rattle.guest_mem.specs.Memory.{Memory}
-use Rattle.host_calls.specs.Calls.{arg, plain_row}
+use Rattle.call_parts.specs.Plain.{arg, plain_row}
 use Rattle.call_parts.specs.Sockets.{setsockopt_asked}
 use Rattle.host_fds.specs.Pipe.{new_pipe}
 use Rattle.host_files.specs.Files.{FilesState, eventfd_taken, next_pipe, pipe_gives, timer_at, timer_count}

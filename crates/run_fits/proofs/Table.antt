@@ -50,7 +50,8 @@ use Rattle.host_calls.specs.declared.plan.Plan.{Plan}
 use Rattle.host_calls.specs.declared.plan.Plan.TheVariants as plan
 use Rattle.host_calls.specs.declared.polling.PollPlan.{PollPlan}
 use Rattle.call_parts.specs.Call.{call_of}
-use Rattle.host_calls.specs.Calls.{arg, plain_row, reacts, network_row, asked, done, row, row_of, with_alarm, blocks_by, blocked, all_ended, cleared, answered, scene_at, call_by, call, call_scene}
+use Rattle.host_calls.specs.Calls.{reacts, network_row, asked, done, row, row_of, with_alarm, blocks_by, blocked, all_ended, cleared, answered, scene_at, call_by, call, call_scene}
+use Rattle.call_parts.specs.Plain.{arg, plain_row}
 use Rattle.host_calls.specs.Closing.{ends, closes, close, closed_by, closed_below}
 use Rattle.file_calls.specs.Descriptors.{descriptor}
 use Rattle.host_calls.specs.Epoll.{all_seen, epoll_waits}
@@ -62,7 +63,8 @@ use Rattle.call_parts.specs.Polling.{poll_entries, entry_size}
 use Rattle.host_calls.specs.Polling.{polls, came, told_entries, told_entry}
 use Rattle.file_calls.specs.Scene.{Local}
 use Rattle.host_calls.specs.Sockets.{accepts, sends_by, receives}
-use Rattle.host_calls.specs.Starting.{starts, task_starts}
+use Rattle.host_calls.specs.Starting.{task_starts}
+use Rattle.call_parts.specs.Starting.{starts}
 use Rattle.file_calls.specs.Times.{at_nanos, rings_at, next_ring}
 
 -- ---- single rows

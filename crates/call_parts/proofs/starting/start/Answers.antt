@@ -3,7 +3,7 @@ use Rattle.std.proofs.Common.{ap, lit<}
 use Rattle.std.specs.FinMap as map
 use Rattle.file_calls.specs.declared.task.Task.{Task}
 use Rattle.file_calls.proofs.Free.{still_free, all_free}
-use Rattle.host_calls.proofs.starting.start.Goals as goal
+use Rattle.call_parts.proofs.starting.start.Goals as goal
 
 pub open-requires-clause-is_free : goal.open-requires-clause-is_free
 open-requires-clause-is_free c = rw c.in_ok-new.ensures (all_free 0)
