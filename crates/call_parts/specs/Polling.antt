@@ -1,6 +1,6 @@
 -- The entries of a ppoll(2), and its deadline.
-use Rattle.std.specs.Prelude.{ℕ, ◌==◌, Bool, false, not, List, take, drop, Option, Some, None, Result, Ok, nat_le, if◌then◌else◌}
-use Rattle.std.specs.Int.{w16, w32, from_le_bytes}
+use Rattle.std.specs.Prelude.{ℕ, ◌+◌, ◌==◌, Bool, false, not, List, ◌++◌, take, drop, Option, Some, None, Result, Ok, nat_le, if◌then◌else◌}
+use Rattle.std.specs.Int.{w16, w32, from_le_bytes, to_le_bytes}
 use Rattle.sim_base.specs.declared.errno.Errno.TheVariants.{Efault, Einval}
 use Rattle.sim_base.specs.declared.time.Time.{Time}
 use Rattle.sim_base.specs.Refusals.{◌>>=◌, ◌>>◌, refuse_if, or_refuse}
@@ -26,6 +26,10 @@ asked_fd entry = from_le_bytes w32 (take int_size entry)
 
 abbrev pub asked_events : List ℕ → ℕ
 asked_events entry = from_le_bytes w16 (take 2 (drop int_size entry))
+
+-- the entry with these events for those that came
+abbrev pub with_events : List ℕ → ℕ → List ℕ
+with_events entry events = take (int_size + 2) entry ++ to_le_bytes w16 events
 
 -- how many entries tell of something
 abbrev pub count_one : ℕ → ℕ

@@ -20,7 +20,7 @@ pub use messages::{Message, Room, is_quick, recv_place, refuse_flags};
 pub use options::{Asked, getsockopt_asked, number_of, setsockopt, tell_option, type_of};
 pub use plain::plain_row;
 pub use polling::{
-    asked_events, asked_fd, count_one, entry_at, has_come, poll_deadline, poll_entries,
+    asked_events, asked_fd, count_one, entry_at, has_come, poll_deadline, poll_entries, with_events,
 };
 pub use ready::{eventfd_ready, eventfd_rises, pipe_ready, pipe_rises, timer_ready, timer_rises};
 pub use sockets::{

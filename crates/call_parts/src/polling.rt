@@ -39,6 +39,15 @@ pub fn entry_at(entries: &[u8], place: usize) -> [u8; 8]
     entry
 }
 
+/// An entry that tells of these events.
+pub fn with_events(entry: [u8; 8], events: u16) -> [u8; 8]
+    ensures { result ≡ spec.with_events entry events }
+{
+    let [a, b, c, d, e, f, _g, _h] = entry;
+    let [g, h] = events.to_le_bytes();
+    [a, b, c, d, e, f, g, h]
+}
+
 /// Whether an entry tells of something, as a number.
 pub fn count_one(events: u16) -> u32
     ensures count { result ≡ spec.count_one events }

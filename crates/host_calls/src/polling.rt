@@ -11,7 +11,7 @@ use crate::parts::Reaction;
 use crate::plan::Plan;
 use crate::stage::{Stage, View};
 use call_parts::{
-    asked_events, asked_fd, count_one, entry_at, has_come, poll_deadline, poll_entries,
+    asked_events, asked_fd, count_one, entry_at, has_come, poll_deadline, poll_entries, with_events,
 };
 use file_calls::look_up;
 use guest_args::fill;
@@ -61,9 +61,7 @@ impl View<'_> {
         requires { self.now.time.nanos ≤ latest_time }
         ensures { Sees (λ s. spec.told_entry self.now.time s entry) self.now result }
     {
-        let [a, b, c, d, e, f, _g, _h] = entry;
-        let [g, h] = self.came(entry).to_le_bytes();
-        [a, b, c, d, e, f, g, h]
+        with_events(entry, self.came(entry))
     }
 
     /// How many entries tell of something.
