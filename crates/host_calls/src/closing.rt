@@ -47,15 +47,8 @@ fn end_object(
             sockets.close_udp(place);
             Ok(())
         }
-        Object::Tcp(place) => {
-            sockets.close_tcp(&mut shared.outlet, now, place)?;
-            Ok(())
-        }
-        Object::Epoll(_) => Ok(()),
-        Object::Input => Ok(()),
-        Object::Output => Ok(()),
-        Object::Errors => Ok(()),
-        Object::Hosts(_) => Ok(()),
+        Object::Tcp(place) => sockets.close_tcp(&mut shared.outlet, now, place),
+        _ => Ok(()),
     }
 }
 
@@ -72,16 +65,7 @@ fn end_epoll(object: Object, epolls: &mut Epolls)
 {
     match object {
         Object::Epoll(place) => epolls.end(place),
-        Object::Input => {}
-        Object::Output => {}
-        Object::Errors => {}
-        Object::Hosts(_) => {}
-        Object::ReadEnd(_) => {}
-        Object::WriteEnd(_) => {}
-        Object::Timer(_) => {}
-        Object::Eventfd(_) => {}
-        Object::Udp(_) => {}
-        Object::Tcp(_) => {}
+        _ => {}
     }
 }
 

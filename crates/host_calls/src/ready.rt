@@ -43,16 +43,7 @@ fn bits_seen(now: Time, object: Object, files: &Files, sockets: &Sockets) -> u16
 {
     match object {
         Object::Tcp(place) => sockets.tcp_seen(place),
-        Object::Input => object_ready(now, object, files, sockets),
-        Object::Output => object_ready(now, object, files, sockets),
-        Object::Errors => object_ready(now, object, files, sockets),
-        Object::Hosts(_) => object_ready(now, object, files, sockets),
-        Object::ReadEnd(_) => object_ready(now, object, files, sockets),
-        Object::WriteEnd(_) => object_ready(now, object, files, sockets),
-        Object::Timer(_) => object_ready(now, object, files, sockets),
-        Object::Eventfd(_) => object_ready(now, object, files, sockets),
-        Object::Epoll(_) => object_ready(now, object, files, sockets),
-        Object::Udp(_) => object_ready(now, object, files, sockets),
+        _ => object_ready(now, object, files, sockets),
     }
 }
 
@@ -68,11 +59,7 @@ fn object_rises(now: Time, object: Object, files: &Files, sockets: &Sockets) -> 
         Object::Eventfd(place) => eventfd_rises(place, files),
         Object::Udp(place) => sockets.udp_rises(place),
         Object::Tcp(place) => sockets.tcp_rises(place),
-        Object::Input => Rises::none(),
-        Object::Output => Rises::none(),
-        Object::Errors => Rises::none(),
-        Object::Hosts(_) => Rises::none(),
-        Object::Epoll(_) => Rises::none(),
+        _ => Rises::none(),
     }
 }
 
@@ -149,13 +136,6 @@ impl View<'_> {
         }
     }
 
-    fn other_ready(&self, object: Object) -> u16
-        requires { self.now.time.nanos ≤ latest_time }
-        ensures { Sees (λ s. spec.object_ready self.now.time object s.shared.files s.sockets) self.now result }
-    {
-        object_ready(self.time, object, &self.shared.files, self.sockets)
-    }
-
     /// What an object is ready for, by the bits of `poll(2)`.
     pub(crate) fn readiness(&self, object: Object) -> u16
         requires { self.now.time.nanos ≤ latest_time }
@@ -163,16 +143,7 @@ impl View<'_> {
     {
         match object {
             Object::Epoll(place) => self.epoll_ready(place),
-            Object::Input => self.other_ready(object),
-            Object::Output => self.other_ready(object),
-            Object::Errors => self.other_ready(object),
-            Object::Hosts(_) => self.other_ready(object),
-            Object::ReadEnd(_) => self.other_ready(object),
-            Object::WriteEnd(_) => self.other_ready(object),
-            Object::Timer(_) => self.other_ready(object),
-            Object::Eventfd(_) => self.other_ready(object),
-            Object::Udp(_) => self.other_ready(object),
-            Object::Tcp(_) => self.other_ready(object),
+            _ => object_ready(self.time, object, &self.shared.files, self.sockets),
         }
     }
 }
