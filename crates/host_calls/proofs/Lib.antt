@@ -1,4 +1,5 @@
 pub mod Closed
 pub mod Entries
+pub mod Made
 pub mod Objects
 pub mod Waits

@@ -1,5 +1,5 @@
 -- epoll_pwait(2).
-use Rattle.std.specs.Prelude.{◌≡◌, ℕ, ◌&&◌, Bool, false, not, List, [], length, map, Option, Some, None, Result, Ok, if◌then◌else◌}
+use Rattle.std.specs.Prelude.{◌≡◌, ℕ, ◌&&◌, Bool, false, not, List, [], length, map, Option, Some, None, Result, Ok}
 use Rattle.sim_base.specs.declared.time.Time.{Time}
 use Rattle.sim_base.specs.Refusals.{◌>>=◌, ◌>>◌, refuse_if}
 use Rattle.host_fds.specs.declared.epoll.Seen.{Seen}

@@ -7,7 +7,6 @@ use Rattle.host_fds.specs.Epoll as epoll
 use Rattle.host_fds.specs.Rises.{no_rises}
 use Rattle.host_fds.specs.declared.epoll.Seen.{Seen}
 use Rattle.host_fds.specs.declared.epoll.Watch.{Watch}
-use Rattle.host_fds.specs.declared.eventfd.Eventfd.{Eventfd}
 use Rattle.host_fds.specs.declared.pipe.End.TheVariants.{Reading, Writing}
 use Rattle.host_fds.specs.declared.rises.Rises.{Rises}
 use Rattle.host_files.specs.declared.file.Object.{Object}

@@ -1,9 +1,10 @@
 //! socket, bind and listen.
 
-ghost use Rattle.std.specs.Prelude.{◌≡◌};
+ghost use Rattle.std.specs.Prelude.{◌≡◌, IfOk};
 ghost use Rattle.host_sockets.specs.Sockets.{SocketsRecord};
 ghost use Rattle.host_sockets.specs.StandsFor.{Stand, Becomes};
 ghost use Rattle.host_calls.specs.Sockets as spec;
+ghost use Rattle.host_calls.specs.inside.Sockets as inside;
 ghost use Rattle.host_calls.specs.inside.Stage.{Reacts};
 
 use crate::parts::Reaction;
@@ -16,7 +17,7 @@ use guest_mem::Mem;
 use host_files::{File, Object};
 use host_sockets::Sockets;
 use host_wants::{CallError, Refusal};
-use sim_base::{Addr, Book, Errno};
+use sim_base::{Addr, Book, Errno, NoMemory};
 
 fn is_bound(number: SocketNumber, sockets: &Sockets) -> bool
     ensures { (t : SocketsRecord) → Stand sockets.now t → result ≡ spec.is_bound number t }
@@ -57,6 +58,19 @@ fn bind_at(
     }
 }
 
+/// Makes a socket, of TCP or of UDP.
+fn new_object(stream: bool, sockets: &mut Sockets) -> Result<Object, NoMemory>
+    ensures { IfOk result (λ object. (t : SocketsRecord) → Stand sockets.old t → inside.Makes (inside.new_object stream t) object sockets.new) }
+{
+    if stream {
+        let place = sockets.new_tcp()?;
+        Ok(Object::Tcp(place))
+    } else {
+        let place = sockets.new_udp()?;
+        Ok(Object::Udp(place))
+    }
+}
+
 impl Stage<'_> {
     /// `socket(2)`.
     pub(crate) fn socket(
@@ -68,26 +82,13 @@ impl Stage<'_> {
         ensures { Reacts (spec.socket family kind protocol) self.old self.new result }
     {
         let new = socket_asked(family, kind, protocol, self.task)?;
-        let nonblocking = has(O_NONBLOCK, kind);
-        if new.stream {
-            let place = self.sockets.new_tcp()?;
-            let object = Object::Tcp(place);
-            let file = File {
-                nonblocking,
-                object,
-            };
-            open(new.fd, file, self.task, self.shared)?;
-            Ok(Reaction::Value(new.fd))
-        } else {
-            let place = self.sockets.new_udp()?;
-            let object = Object::Udp(place);
-            let file = File {
-                nonblocking,
-                object,
-            };
-            open(new.fd, file, self.task, self.shared)?;
-            Ok(Reaction::Value(new.fd))
-        }
+        let object = new_object(new.stream, self.sockets)?;
+        let file = File {
+            nonblocking: has(O_NONBLOCK, kind),
+            object,
+        };
+        open(new.fd, file, self.task, self.shared)?;
+        Ok(Reaction::Value(new.fd))
     }
 
     /// `bind(2)`.
