@@ -5,3 +5,5 @@ pub mod Sweeping
 pub mod Firing
 pub mod Turning
 pub mod Walks
+pub mod Beginnings
+pub mod Stretches

@@ -9,6 +9,4 @@ pub mod Simulations
 pub mod Openings
 pub mod Queues
 pub mod Runs
-pub mod Beginnings
-pub mod Stretches
 pub mod Gaining

@@ -11,6 +11,5 @@ pub mod Running
 pub mod Slice
 pub mod StandsFor
 pub mod Step
-pub mod Stretches
 pub mod World
 pub mod WorldStreams

@@ -5,7 +5,6 @@ mod acting;
 mod firing;
 mod handing;
 mod host;
-pub mod laws;
 mod running;
 mod slice;
 mod streams;

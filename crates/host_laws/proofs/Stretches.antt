@@ -12,7 +12,7 @@ use Rattle.host_state.specs.Step.{Step}
 use Rattle.host_state.specs.Step as step
 use Rattle.host_state.specs.HostRecord.{HostRecord}
 use Rattle.host_state.specs.Slice.{slice, calls, calls_again, follows, after_step, runs_to_call}
-use Rattle.host_state.specs.Stretches.{instructions, stretch, IsSlice, pauses, blocks, ends, answers, IsShortSlice}
+use Rattle.host_laws.specs.Stretches.{instructions, stretch, IsSlice, pauses, blocks, ends, answers, IsShortSlice}
 
 within_budget : (net : Net) (cpu : Cpu) (found : Option (Option Task)) → instructions net cpu found ≤ net.budget
 within_budget net cpu None = omega arith

@@ -1,5 +1,5 @@
-use Rattle.host_state.proofs.Stretches.{slice_short, kept_short}
-use Rattle.host_state.proofs.laws.slices_are_short.Goals as goal
+use Rattle.host_laws.proofs.Stretches.{slice_short, kept_short}
+use Rattle.host_laws.proofs.slices_are_short.Goals as goal
 
 pub returns-clause-fresh : goal.returns-clause-fresh
 returns-clause-fresh c = slice_short
