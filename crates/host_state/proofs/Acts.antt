@@ -11,13 +11,9 @@ use Rattle.sim_base.specs.declared.packet.Packet.{Packet}
 use Rattle.sim_base.specs.declared.time.Time.{Time}
 use Rattle.net_iface.specs.declared.lane.Pushed.{Pushed}
 use Rattle.net_iface.specs.declared.lane.Released.{Released}
-use Rattle.net_iface.specs.Lane.{Release}
 use Rattle.host_calls.specs.declared.all.Parts.{Parts}
-use Rattle.file_calls.specs.declared.task.Output.{Output}
 use Rattle.host_calls.specs.Events.{arrives, alarmed, Delivered}
 use Rattle.host_calls.specs.Parts.{PartsRecord, PartsStand}
-use Rattle.host_sockets.specs.Sockets.{SocketsRecord}
-use Rattle.host_sockets.specs.StandsFor.{Stand}
 use Rattle.host_wants.specs.Wanted.{Wanted}
 use Rattle.host_state.specs.declared.host.Body.{Body}
 use Rattle.host_link.specs.Net.{Net}

@@ -1,26 +1,23 @@
 -- What a body's firings do to the records for which it stands.
-use Rattle.std.proofs.Common.{◌≡◌, ℕ, ◌≤◌, ◌-◌, suc, length, nat_lt, Bool, true, false, not, List, Option, Some, None, slice_get, refl, sym, ap, subst, ◌∙◌}
+use Rattle.std.proofs.Common.{◌≡◌, ℕ, ◌≤◌, suc, length, nat_lt, Bool, true, false, not, Option, Some, None, slice_get, refl, sym, ap, subst, ◌∙◌}
 use Rattle.std.specs.Prelude.{if◌then◌else◌, ◌&&◌}
 use Rattle.sim_base.specs.declared.event.Event.{Event}
 use Rattle.sim_base.specs.declared.signal.Signal.{Signal}
 use Rattle.host_link.specs.Link.{LinkState, comes_to}
 use Rattle.sim_base.specs.declared.time.Time.{Time}
 use Rattle.host_calls.specs.declared.all.Parts.{Parts}
-use Rattle.file_calls.specs.declared.task.Task.{Task}
 use Rattle.file_calls.specs.declared.task.Why.{Why}
 use Rattle.host_calls.specs.Calls.{answers}
 use Rattle.host_calls.specs.Parts.{PartsRecord, PartsStand}
 use Rattle.host_calls.specs.Starting.{task_starts}
 use Rattle.host_state.specs.declared.host.Body.{Body}
 use Rattle.host_link.specs.Net.{Net}
-use Rattle.guest_process.specs.declared.process.Process.{Process}
 use Rattle.guest_process.specs.declared.process.Running.{Running}
-use Rattle.host_rows.specs.declared.row.Row.{Row}
 use Rattle.guest_process.specs.declared.start.Started.{Started}
 use Rattle.host_state.specs.HostRecord.{HostRecord}
 use Rattle.host_state.specs.Host.{with_parts}
-use Rattle.host_state.specs.Slice.{has_task, slice, calls_again, follows, is_killed, goes_later}
-use Rattle.host_state.specs.Fire.{is_not_started, ready, begins, begins_so, starts, running_in, kept_in, kept_by, runs_on, goes_if, goes, is_shut, shutdown_signal, shuts_if, shuts, would_answer, wakes_in, wakes_if, wakes, wakes_from, wakes_all, acts, at_time, has_acted}
+use Rattle.host_state.specs.Slice.{slice, follows, is_killed}
+use Rattle.host_state.specs.Fire.{is_not_started, ready, begins, begins_so, starts, running_in, kept_in, runs_on, goes_if, goes, is_shut, shutdown_signal, shuts_if, shuts, would_answer, wakes_in, wakes_if, wakes, wakes_from, wakes_all, acts, at_time, has_acted}
 use Rattle.host_state.specs.StandsFor.{BodyStands, Does, DoesFrom, LeadsTo}
 use Rattle.host_state.proofs.Seen.{seen, seen_all, stands_seen}
 

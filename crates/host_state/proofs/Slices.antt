@@ -1,5 +1,5 @@
 -- What a body's slices do to the records for which it stands.
-use Rattle.std.proofs.Common.{◌≡◌, ℕ, suc, ◌<◌, ◌≤◌, ◌-◌, Bool, true, false, List, length, Option, Some, None, nat_lt, slice_get, slice_set, zero, [], ◌∷◌, arith, rules, tests, refl, sym, ap, subst, ◌∙◌}
+use Rattle.std.proofs.Common.{◌≡◌, ℕ, suc, Bool, true, false, List, length, Option, Some, None, nat_lt, slice_get, slice_set, zero, [], ◌∷◌, arith, rules, tests, refl, sym, ap, subst, ◌∙◌}
 use Rattle.std.specs.Prelude.{if◌then◌else◌}
 use Rattle.std.proofs.lemmas.Grind.{common_steps}
 use Rattle.std.proofs.lemmas.Option.{slice_get_past}
@@ -26,12 +26,11 @@ use Rattle.host_state.specs.declared.host.Body.{Body}
 use Rattle.host_link.specs.Net.{Net}
 use Rattle.host_sockets.specs.declared.sockets.Sockets.{Sockets}
 use Rattle.host_sockets.specs.StandsFor.{Stand}
-use Rattle.guest_process.specs.declared.process.Process.{Process}
 use Rattle.host_state.specs.Step.{Step}
 use Rattle.host_state.specs.Step as step
 use Rattle.host_state.specs.HostRecord.{HostRecord}
 use Rattle.host_state.specs.Host.{with_link, with_parts, with_process, does_wanted}
-use Rattle.host_state.specs.Slice.{has_task, number_in, arguments_in, step_of, has_called, calls, closes, is_killed, by_turn_end, turns, with_task, runs_to_call, rests, has_ended, after_step, slice, follows, calls_again, goes_later, pause}
+use Rattle.host_state.specs.Slice.{number_in, arguments_in, step_of, has_called, calls, closes, is_killed, by_turn_end, turns, with_task, runs_to_call, rests, has_ended, after_step, slice, follows, calls_again, goes_later, pause}
 use Rattle.host_state.specs.StandsFor.{BodyStands, StepStands, Does, DoesStep, LeadsTo}
 use Rattle.guest_process.specs.Turns.{TurnStands, SlotTurns}
 use Rattle.host_state.proofs.Seen.{seen, seen_all, stands_seen}

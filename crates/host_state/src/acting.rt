@@ -20,16 +20,14 @@ impl Body {
         ensures { OnOk result (Does (spec.does_wanted net.now) self.old self.new) }
     {
         let own = self.row.address;
-        self.link.do_wants(&mut self.parts.shared.outlet, net, own)?;
-        Ok(())
+        self.link.do_wants(&mut self.parts.shared.outlet, net, own)
     }
 
     /// The lane to the network releases what it can.
     pub(crate) fn come_up(&mut self, net: &Net) -> Result<(), NoMemory>
         ensures { OnOk result (Does (spec.on_wire (up_comes net.now)) self.old self.new) }
     {
-        self.link.come_up(&mut self.parts.shared.outlet, net)?;
-        Ok(())
+        self.link.come_up(&mut self.parts.shared.outlet, net)
     }
 
     /// The sockets get a packet.
@@ -39,8 +37,7 @@ impl Body {
         let now = self.link.now();
         let act = deliver(&mut self.parts, now, &packet)?;
         self.link.log(act, packet)?;
-        self.do_wanted(net)?;
-        Ok(())
+        self.do_wanted(net)
     }
 
     /// The sockets get packets, one after another.
@@ -53,21 +50,12 @@ impl Body {
         Ok(())
     }
 
-    /// A packet comes to the router's lane.
+    /// A packet comes to the router's lane: it arrives, waits or is dropped.
     fn come_to_router(&mut self, net: &Net, packet: Packet) -> Result<(), NoMemory>
         requires { packet_size packet ≤ MAX_PACKET }
         ensures { OnOk result (Does (arriving.comes_to_router net.now packet) self.old self.new) }
     {
-        let pushed = self.link.push_down(packet)?;
-        self.go_in(net, pushed)?;
-        Ok(())
-    }
-
-    /// A packet that came to the router's lane arrives, waits or is dropped.
-    fn go_in(&mut self, net: &Net, pushed: Pushed) -> Result<(), NoMemory>
-        ensures { OnOk result (Does (arriving.goes_in net.now pushed) self.old self.new) }
-    {
-        match pushed {
+        match self.link.push_down(packet)? {
             Pushed::Leaves(packet) => self.hand_over(net, packet),
             Pushed::Waits(due) => self.link.make_if(due, What::Down),
             Pushed::Dropped(packet) => self.link.log(Act::FullDown, packet),
@@ -83,11 +71,9 @@ impl Body {
         }
         let at_once = net.is_bootstrapping(self.link.now());
         if at_once {
-            self.hand_over(net, packet)?;
-            return Ok(());
+            return self.hand_over(net, packet);
         }
-        self.come_to_router(net, packet)?;
-        Ok(())
+        self.come_to_router(net, packet)
     }
 
     /// The router's lane releases what it can.
@@ -97,8 +83,7 @@ impl Body {
         let released = self.link.release_down()?;
         self.link.drop_all(released.dropped)?;
         self.hand_over_all(net, released.packets)?;
-        self.link.make_if(released.next, What::Down)?;
-        Ok(())
+        self.link.make_if(released.next, What::Down)
     }
 
     /// The moment of an alarm has come.
@@ -112,7 +97,6 @@ impl Body {
     {
         let now = self.link.now();
         alarm(&mut self.parts, now, target, serial)?;
-        self.do_wanted(net)?;
-        Ok(())
+        self.do_wanted(net)
     }
 }

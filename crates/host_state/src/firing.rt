@@ -3,7 +3,7 @@
 ghost use Rattle.std.specs.Prelude.{◌≡◌, ◌≤◌, ◌&&◌, not, List, slice_get, IfOk, OnOk};
 ghost use Rattle.sim_base.specs.Units.{latest_time};
 ghost use Rattle.host_state.specs.HostRecord.{HostRecord};
-ghost use Rattle.host_state.specs.StandsFor.{BodyStands, Does, DoesFrom, HandsOut};
+ghost use Rattle.host_state.specs.StandsFor.{BodyStands, Does, HandsOut};
 ghost use Rattle.file_calls.specs.declared.task.Output.{Output};
 ghost use Rattle.host_state.specs.Fire as spec;
 
@@ -69,8 +69,7 @@ impl Body {
             return Ok(());
         }
         start_task(&mut self.parts, process, started.memory)?;
-        self.run(net, process, CALLS, started.cpu)?;
-        Ok(())
+        self.run(net, process, CALLS, started.cpu)
     }
 
     /// A process that has not started is made, and runs a slice.
@@ -98,23 +97,8 @@ impl Body {
         }
     }
 
-    /// A blocked process calls its kept call again and runs on, a paused one runs on.
-    fn run_on(
-        &mut self,
-        net: &Net,
-        process: u32,
-        running: Running,
-        kept: Option<Why>,
-    ) -> Result<(), NoMemory>
-        ensures { OnOk result (Does (spec.runs_on net.now process running kept) self.old self.new) }
-    {
-        match kept {
-            Some(why) => self.call_again(net, process, why, running.cpu),
-            None => self.run(net, process, CALLS, running.cpu),
-        }
-    }
-
-    /// A process that has started and not ended goes on.
+    /// A process that has started and not ended goes on: a blocked one calls its kept call again and
+    /// runs on, a paused one runs on.
     fn go(&mut self, net: &Net, process: u32) -> Result<(), NoMemory>
         ensures { OnOk result (Does (spec.goes net.now process) self.old self.new) }
     {
@@ -122,9 +106,10 @@ impl Body {
             Some(running) => running,
             None => return Ok(()),
         };
-        let kept = self.kept(process);
-        self.run_on(net, process, running, kept)?;
-        Ok(())
+        match self.kept(process) {
+            Some(why) => self.call_again(net, process, why, running.cpu),
+            None => self.run(net, process, CALLS, running.cpu),
+        }
     }
 
     /// The signal that shuts a process down.
@@ -139,7 +124,7 @@ impl Body {
     fn shut_down(&mut self, net: &Net, process: u32) -> Result<(), NoMemory>
         ensures { OnOk result (Does (spec.shuts net.now process) self.old self.new) }
     {
-        let _running = match self.running(process) {
+        let running = match self.running(process) {
             Some(running) => running,
             None => return Ok(()),
         };
@@ -147,8 +132,8 @@ impl Body {
             Some(signal) => signal,
             None => return Ok(()),
         };
-        self.shut(net, process, signal)?;
-        Ok(())
+        let next = self.kill(net, process, signal)?;
+        self.follow(net, process, next, running.cpu)
     }
 
     /// What an event does.
@@ -204,8 +189,7 @@ impl Body {
         if !self.is_to_wake(net, process, running) {
             return Ok(());
         }
-        self.go_later(process, 1, running.cpu)?;
-        Ok(())
+        self.go_later(process, 1, running.cpu)
     }
 
     /// The same for all processes, in their order.
@@ -216,18 +200,6 @@ impl Body {
         for process in 0..count {
             self.wake(net, process)?;
         }
-        Ok(())
-    }
-
-    /// An event acts at its time, and processes wake.
-    fn act_at(&mut self, net: &Net, event: Event) -> Result<(), NoMemory>
-        requires { event.key.due.nanos ≤ latest_time }
-        ensures { OnOk result (DoesFrom event.key.due (spec.has_acted net.now event) self.old self.new) }
-    {
-        let Event { key, what } = event;
-        self.link.come_to(key.due);
-        self.act(net, what)?;
-        self.wake_all(net)?;
         Ok(())
     }
 
@@ -244,12 +216,15 @@ impl Body {
         }
     }
 
-    /// An event fires.
+    /// An event fires: it acts at its time, and processes wake.
     pub(crate) fn fire(&mut self, net: &Net, event: Event) -> Result<Made, NoMemory>
         requires { event.key.due.nanos ≤ latest_time }
         ensures { IfOk result (λ made. (h : HostRecord) → BodyStands self.old h → h.link.time.nanos ≤ event.key.due.nanos → HandsOut (spec.fire net.now h event) (spec.wrote net.now h event) made self.new) }
     {
-        self.act_at(net, event)?;
+        let Event { key, what } = event;
+        self.link.come_to(key.due);
+        self.act(net, what)?;
+        self.wake_all(net)?;
         self.work = self.work.saturating_add(EVENT_WORK);
         Ok(self.hand_out())
     }

@@ -6,7 +6,6 @@ ghost use Rattle.host_state.specs.StandsFor.{Does, DoesStep};
 ghost use Rattle.host_state.specs.Host as acting;
 ghost use Rattle.host_state.specs.Slice as spec;
 ghost use Rattle.host_state.specs.Step.{step_with};
-ghost use Rattle.host_state.specs.Step as step;
 
 use crate::host::Body;
 use file_calls::Why;
@@ -82,21 +81,15 @@ impl Body {
         }
         let now = self.link.now();
         close_all(&mut self.parts, now, process)?;
-        self.do_wanted(net)?;
-        Ok(())
+        self.do_wanted(net)
     }
 
-    /// A process ends by a signal.
-    pub(crate) fn kill(
-        &mut self,
-        net: &Net,
-        process: u32,
-        signal: Signal,
-    ) -> Result<State, NoMemory>
-        ensures { IfOk result (λ state. DoesStep (spec.is_killed net.now process signal) (step.Ends state) self.old self.new) }
+    /// A process ends by a signal, whatever its registers are.
+    pub(crate) fn kill(&mut self, net: &Net, process: u32, signal: Signal) -> Result<Next, NoMemory>
+        ensures { IfOk result (λ next. (cpu : Cpu) → DoesStep (spec.is_killed net.now process signal) (step_with next cpu) self.old self.new) }
     {
         self.close(net, process)?;
-        Ok(State::Signaled(signal))
+        Ok(Next::Ends(State::Signaled(signal)))
     }
 
     /// A turn of the machine has ended.
@@ -116,14 +109,8 @@ impl Body {
                 let arguments = [x[10], x[11], x[12], x[13], x[14], x[15]];
                 self.call(net, process, number, arguments, cpu)
             }
-            TurnEnd::Trap(signal) => {
-                let state = self.kill(net, process, signal)?;
-                Ok(Next::Ends(state))
-            }
-            TurnEnd::Spent => {
-                let state = self.kill(net, process, Signal::SigXcpu)?;
-                Ok(Next::Ends(state))
-            }
+            TurnEnd::Trap(signal) => self.kill(net, process, signal),
+            TurnEnd::Spent => self.kill(net, process, Signal::SigXcpu),
         }
     }
 
@@ -141,10 +128,7 @@ impl Body {
             &mut self.work,
         );
         match turned {
-            Some(end) => {
-                let next = self.end_turn(net, process, end, cpu)?;
-                Ok(next)
-            }
+            Some(end) => self.end_turn(net, process, end, cpu),
             None => Ok(Next::Blocks),
         }
     }
@@ -217,19 +201,21 @@ impl Body {
                 }
             }
         }
-        self.go_later(process, PAUSE, running)?;
-        Ok(())
+        self.go_later(process, PAUSE, running)
     }
 
     /// A process goes on after its first call of a slice, or rests, or has ended.
-    fn follow(&mut self, net: &Net, process: u32, next: Next, cpu: Cpu) -> Result<(), NoMemory>
+    pub(crate) fn follow(
+        &mut self,
+        net: &Net,
+        process: u32,
+        next: Next,
+        cpu: Cpu,
+    ) -> Result<(), NoMemory>
         ensures { OnOk result (Does (λ h. spec.follows net.now process (step_with next cpu, h)) self.old self.new) }
     {
         match next {
-            Next::GoesOn => {
-                self.run(net, process, CALLS - 1, cpu)?;
-                Ok(())
-            }
+            Next::GoesOn => self.run(net, process, CALLS - 1, cpu),
             Next::Blocks => {
                 self.rest(process, cpu);
                 Ok(())
@@ -253,16 +239,6 @@ impl Body {
     {
         let mut running = cpu;
         let next = self.call(net, process, why.number, why.args, &mut running)?;
-        self.follow(net, process, next, running)?;
-        Ok(())
-    }
-
-    /// A process is ended by a signal.
-    pub(crate) fn shut(&mut self, net: &Net, process: u32, signal: Signal) -> Result<(), NoMemory>
-        ensures { OnOk result (Does (λ h. spec.follows net.now process (spec.is_killed net.now process signal h)) self.old self.new) }
-    {
-        let state = self.kill(net, process, signal)?;
-        self.end(process, state);
-        Ok(())
+        self.follow(net, process, next, running)
     }
 }

@@ -1,6 +1,8 @@
-use Rattle.std.proofs.Common.{◌≡◌, ◌+◌, ◌-◌, ℕ, suc, sym, ap, ◌∙◌, arith}
+use Rattle.std.proofs.Common.{◌≡◌, ◌+◌, ◌-◌, ℕ, suc, ap, arith}
+use Rattle.std.proofs.lemmas.Result.{on_ok_weaker}
 use Rattle.host_state.specs.declared.slice.Next.{Next}
-use Rattle.host_state.specs.Slice.{slice}
+use Rattle.host_state.specs.Slice.{slice, goes_later, pause}
+use Rattle.host_state.specs.StandsFor.{Does}
 use Rattle.host_state.specs.Step.{step_with}
 use Rattle.host_state.proofs.Slices.{goes_on, slice_blocks, slice_ends, slice_pauses, same_step}
 use Rattle.host_state.proofs.host.Body.run.Goals as goal
@@ -29,6 +31,9 @@ returns-in-Ends c = λ h s.
     (same_step _ _ _ _ _ (ap (λ (n : Next). step_with n c.run_to_call.new.cpu) c.in-Ends.is) c.in_ok-run_to_call.ensures) c.end.ensures
 
 pub returns : goal.returns
-returns c = λ h s.
+returns c =
     let counted : c.args.calls - c.loop-call._call ≡ 0 = omega arith in
-    slice_pauses c.args.net.now c.args.process _ c.loop-call.running c.loop-call.self c.go_later.new.self _ counted (c.loop-call.invariant h s) c.in_ok-go_later.ensures
+    on_ok_weaker c.go_later.result
+    (λ (d : Does (goes_later pause c.args.process c.loop-call.running) c.loop-call.self c.go_later.new.self) h s.
+    slice_pauses c.args.net.now c.args.process _ c.loop-call.running c.loop-call.self c.go_later.new.self _ counted (c.loop-call.invariant h s) d)
+    c.go_later.ensures

@@ -1,4 +1,4 @@
-use Rattle.std.proofs.Common.{◌≡◌, ◌+◌, ◌-◌, ℕ, suc, zero, min, length, List, ap, ◌∙◌, sym, subst, arith, rules}
+use Rattle.std.proofs.Common.{◌≡◌, ◌+◌, ◌-◌, ℕ, suc, min, length, List, ap, ◌∙◌, subst, arith, rules}
 use Rattle.guest_process.specs.declared.process.Process.{Process}
 use Rattle.host_state.specs.Fire.{wakes_from, wakes_all}
 use Rattle.host_state.specs.StandsFor.{LeadsTo}
