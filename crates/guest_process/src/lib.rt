@@ -5,6 +5,6 @@ mod process;
 mod start;
 mod turning;
 
-pub use process::{Process, Running};
+pub use process::{Process, Running, not_started};
 pub use start::{Started, start_guest, texts_fit};
 pub use turning::turn_slot;

@@ -9,7 +9,8 @@ use Rattle.host_rows.specs.declared.row.Row.{Row}
 use Rattle.host_state.specs.Fits.{FitsNet, IsEventOf, OpensFit}
 use Rattle.host_link.specs.Home.{home}
 use Rattle.host_state.specs.HostRecord.{HostRecord}
-use Rattle.host_state.specs.HostStands.{Begins, with_events}
+use Rattle.host_link.specs.Handing.{with_events}
+use Rattle.host_state.specs.HostStands.{Begins}
 use Rattle.host_state.specs.Opening.{opening}
 use Rattle.host_state.specs.Running.{Owns, MayRun}
 use Rattle.host_state.proofs.Openings.{opens_fit}

@@ -1,4 +1,5 @@
 pub mod Beginning
+pub mod Handing
 pub mod Home
 pub mod Lanes
 pub mod Link

@@ -2,6 +2,7 @@
 #![tactic(auto)]
 
 mod beginning;
+mod handing;
 mod line;
 mod link;
 mod net;
@@ -9,6 +10,7 @@ mod outbox;
 mod sending;
 mod wanting;
 
+pub use handing::hand_made_on;
 pub use line::{Line, Logged};
 pub use link::{Link, later};
 pub use net::{Images, Net, Nodes};

@@ -38,7 +38,7 @@ impl Outbox {
     }
 
     /// Adds the packet of an event that fires at another host.
-    pub fn post(&mut self, to: u32, event: Event) -> Result<(), NoMemory>
+    pub(crate) fn post(&mut self, to: u32, event: Event) -> Result<(), NoMemory>
         ensures { OnOk result (spec.Posts to event self.old self.new) }
     {
         let Event { key, what } = event;
@@ -53,7 +53,7 @@ impl Outbox {
     }
 
     /// Adds lines of the log, which are from the firing of an event.
-    pub fn add_lines(&mut self, key: Key, lines: Vec<Line>) -> Result<(), NoMemory>
+    pub(crate) fn add_lines(&mut self, key: Key, lines: Vec<Line>) -> Result<(), NoMemory>
         ensures { OnOk result (spec.AddsLines key lines.items self.old self.new) }
     {
         for line in lines {
@@ -63,7 +63,7 @@ impl Outbox {
     }
 
     /// Adds what processes wrote.
-    pub fn add_outputs(&mut self, outputs: Vec<Output>) -> Result<(), NoMemory>
+    pub(crate) fn add_outputs(&mut self, outputs: Vec<Output>) -> Result<(), NoMemory>
         ensures { OnOk result (spec.AddsOutputs outputs.items self.old self.new) }
     {
         let mut outputs = outputs;

@@ -1,12 +1,10 @@
 -- Events into a queue and out of it.
-use Rattle.std.proofs.Common.{◌≡◌, ◌≢◌, ℕ, zero, suc, ◌+◌, ◌≤◌, ⊎_elim, inl, inr, Bool, true, false, ◌||◌, List, [], ◌∷◌, ◌++◌, All, Option, Some, None, slice_get, option_map, refl, sym, ap, subst, ◌∙◌, arith, IsPermutation, append_assoc, append-nil, map, true≢false}
+use Rattle.std.proofs.Common.{◌≡◌, ℕ, ◌+◌, ◌≤◌, Bool, true, false, ◌||◌, List, [], ◌∷◌, ◌++◌, All, Option, Some, None, slice_get, option_map, refl, sym, ap, subst, ◌∙◌, arith, IsPermutation, append-nil, true≢false}
 use Rattle.std.specs.Prelude.{if◌then◌else◌}
-use Rattle.std.specs.Ordering.{is_eq, is_lt, ordering_reverse}
-use Rattle.std.specs.declared.cmp.Ordering.{Ordering}
-use Rattle.std.specs.declared.cmp.Ordering.TheVariants.{Less, Equal, Greater}
-use Rattle.std.proofs.lemmas.Bool.{cases_eq}
+use Rattle.std.specs.Ordering.{is_lt, ordering_reverse}
+use Rattle.std.specs.declared.cmp.Ordering.TheVariants.{Less}
 use Rattle.std.proofs.lemmas.List.Elements.{All-nil, All-weaker}
-use Rattle.std.proofs.lemmas.List.Sorted.{All-permutation, IsPermutation-refl, IsPermutation-sym, IsPermutation-trans, IsPermutation-append_left, IsPermutation-middle}
+use Rattle.std.proofs.lemmas.List.Sorted.{IsPermutation-refl, IsPermutation-sym, IsPermutation-trans, IsPermutation-append_left, IsPermutation-middle}
 use Rattle.sim_base.specs.declared.event.Event.{Event}
 use Rattle.sim_base.specs.declared.key.Key.{Key}
 use Rattle.sim_base.specs.declared.time.Time.{Time}
@@ -14,12 +12,12 @@ use Rattle.sim_base.specs.Key.{key_order}
 use Rattle.sim_base.specs.KeyLaws.{key_order_total}
 use Rattle.event_order.specs.Events.{IsBefore, IsOrdered, IsLeastDue, has_key, with_event}
 use Rattle.event_order.specs.EventsLaws.{with_event_IsPermutation}
-use Rattle.host_state.specs.HostStands.{with_events, held_once}
+use Rattle.host_link.specs.Handing.{with_events, held_once}
 use Rattle.world_order.specs.EventOrder.{take_least, taken_with, is_before, same_key, copies, AreApart}
 use Rattle.world_order.proofs.Apart.{one_if, copies_append, copies_none, AreApart_permutation}
-use Rattle.world_order.proofs.Keys.{same_key_refl, same_key_is, never_before_itself, due_from}
-use Rattle.world_order.proofs.Least.{take_least_least, take_least_there}
-use Rattle.world_order.proofs.Members.{IsIn, Each, Each_from_All, All_from_Each, Each_cons}
+use Rattle.world_order.proofs.Keys.{same_key_refl, same_key_is, never_before_itself}
+use Rattle.world_order.proofs.Least.{take_least_there}
+use Rattle.world_order.proofs.Members.{Each_from_All}
 
 -- ---- new keys
 

@@ -1,5 +1,5 @@
 -- A host that is run up to a time fires as the law of rounds has it.
-use Rattle.std.proofs.Common.{◌≡◌, ◌≢◌, ℕ, ◌+◌, ◌-◌, ◌^◌, ◌<◌, ◌≤◌, inl, inr, Bool, true, false, ◌==◌, ◌||◌, List, [], ◌∷◌, ◌++◌, All, Some, map, filter, length, nat_lt, refl, sym, ap, subst, ◌∙◌, arith, rules, IsPermutation, append_assoc, append-nil, length-append}
+use Rattle.std.proofs.Common.{◌≡◌, ℕ, ◌+◌, ◌-◌, ◌^◌, ◌<◌, ◌≤◌, inl, inr, Bool, true, false, ◌==◌, ◌||◌, List, [], ◌∷◌, ◌++◌, All, Some, map, filter, length, nat_lt, refl, sym, ap, subst, ◌∙◌, arith, IsPermutation, append_assoc, append-nil, length-append}
 use Rattle.std.specs.Prelude.{if◌then◌else◌, not}
 use Rattle.std.proofs.lemmas.Bool.Decides.{Decides-eqb, nat_tests}
 use Rattle.std.proofs.lemmas.List.Sorted.{All-permutation, IsPermutation-sym, IsPermutation-trans, IsPermutation-append_left, IsPermutation-refl, length_permutation}
@@ -21,7 +21,8 @@ use Rattle.host_state.specs.Fire.{fire, wrote}
 use Rattle.host_state.specs.Fits.{model, fires_before_stop, IsHostOf, IsEventOf}
 use Rattle.host_link.specs.Home.{home, home_of}
 use Rattle.host_state.specs.HostRecord.{HostRecord}
-use Rattle.host_state.specs.HostStands.{Stands, Fires, with_events}
+use Rattle.host_link.specs.Handing.{with_events}
+use Rattle.host_state.specs.HostStands.{Stands, Fires}
 use Rattle.host_link.specs.Link.{LinkState}
 use Rattle.host_link.specs.Outbox.{own_events, parcels_of, posted, logged}
 use Rattle.host_link.specs.Parcels.{parcel_event}

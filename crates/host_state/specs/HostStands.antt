@@ -1,6 +1,5 @@
 -- What a host of the code stands for, and what its calls leave.
-use Rattle.std.specs.Prelude.{◌≡◌, ℕ, Bool, List, [], ◌∷◌, ◌++◌, map, if◌then◌else◌}
-use Rattle.event_order.specs.Events.{has_key, with_event}
+use Rattle.std.specs.Prelude.{◌≡◌, [], ◌++◌, map}
 use Rattle.sim_base.specs.declared.event.Event.{Event}
 use Rattle.host_state.specs.declared.host.Host.{Host}
 use Rattle.host_link.specs.Net.{Net}
@@ -9,6 +8,7 @@ use Rattle.host_rows.specs.declared.row.Row.{Row}
 use Rattle.host_state.specs.Fire.{fire, wrote}
 use Rattle.host_state.specs.HostRecord.{HostRecord}
 use Rattle.host_state.specs.Opening.{opening}
+use Rattle.host_link.specs.Handing.{with_events}
 use Rattle.host_link.specs.Outbox.{own_events, parcels_of, logged}
 use Rattle.host_state.specs.StandsFor.{BodyStands}
 
@@ -22,21 +22,6 @@ pub record Stands (c : Host) (h : HostRecord) : Type 0 where
 -- it stands for what it stood for
 abbrev pub IsSameBody : Host → Host → Type 0
 IsSameBody old new = (h : HostRecord) → Stands old h → Stands new h
-
--- events are held one after another, each key once
-abbrev pub held_once : Bool → Event → List Event → List Event
-held_once had e queue = if had then queue else with_event e queue
-
-abbrev pub with_events : List Event → List Event → List Event
-with_events [] queue = queue
-with_events (e ∷ es) queue = with_events es (held_once (has_key e.key queue) e queue)
-
--- of the events that a host made its own are held, and the packets of the others are added to an outbox
-pub record HandsOn (net : Net) (host : ℕ) (made held now : List Event) (before after : Outbox) : Type 0 where
-  pub queue : now ≡ with_events (own_events net host made) held
-  pub parcels : after.parcels.items ≡ before.parcels.items ++ parcels_of net host made
-  pub lines : after.lines ≡ before.lines
-  pub outputs : after.outputs ≡ before.outputs
 
 -- what a firing leaves at the host, which holds what it made for itself, and what it adds to an outbox: packets for others, lines, and what
 -- the host's processes wrote

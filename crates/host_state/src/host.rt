@@ -1,21 +1,18 @@
 //! What a host is.
 
-ghost use Rattle.std.specs.Prelude.{◌≡◌, ◌≤◌, ◌<◌, ◌∷◌, [], false, length, replicate, option_map, slice_get, IfOk, IfErr, IfSome, IfNone, OnOk, OnErr, All};
+ghost use Rattle.std.specs.Prelude.{◌≡◌, ◌≤◌, ◌<◌, ◌∷◌, [], false, length, option_map, slice_get, IfOk, IfErr, IfSome, IfNone, OnOk, OnErr, All};
 ghost use Rattle.sim_base.specs.Limits.{most_processes};
 ghost use Rattle.sim_base.specs.Units.{latest_time};
 ghost use Rattle.event_order.specs.Events.{IsBefore, IsLeastDue, IsOrdered, has_key, with_event};
 ghost use Rattle.host_state.specs.HostRecord.{HostRecord, process_state};
-ghost use Rattle.host_state.specs.HostStands.{Stands, Fires, Begins, IsSameBody, with_events};
-ghost use Rattle.guest_process.specs.declared.process.Process.TheVariants as process;
+ghost use Rattle.host_state.specs.HostStands.{Stands, Fires, Begins, IsSameBody};
 
-use crate::handing::{hand_all_on, hold_all};
 use event_order::{Queue, Refused};
-use guest_process::Process;
+use guest_process::{Process, not_started};
 use host_calls::Parts;
-use host_link::{Link, Made, Net, Outbox};
+use host_link::{Link, Net, Outbox, hand_made_on};
 use host_rows::Row;
 use sim_base::{Draws, Event, NoMemory, State, Time};
-use std::alloc::Global;
 
 /// A host without the events that it holds. Its work is about what it had to do so far, as a number of instructions: no clause
 /// speaks of it.
@@ -35,26 +32,6 @@ pub struct Host {
     pub(crate) queue: Queue,
 }
 
-/// So many processes that have not started.
-fn not_started(alloc: Global, count: usize) -> Result<Vec<Process>, NoMemory>
-    ensures { IfOk result (λ processes. processes.items ≡ replicate count process.NotStarted) }
-{
-    let mut processes = Vec::new(alloc);
-    for _process in 0..count {
-        processes.push(Process::NotStarted)?;
-    }
-    Ok(processes)
-}
-
-/// A queue of events, no two of which have the same key.
-fn queue_of(alloc: Global, events: Vec<Event>) -> Result<Queue, NoMemory>
-    ensures { IfOk result (λ queue. queue ≡ with_events events.items []) }
-{
-    let mut queue = Queue::new(alloc);
-    hold_all(&mut queue, events)?;
-    Ok(queue)
-}
-
 impl Host {
     /// The host of a row at the beginning, which holds the events that start and shut down its
     /// processes.
@@ -64,13 +41,11 @@ impl Host {
     {
         let alloc = *net.nodes.allocator();
         let count = row.processes.as_slice().len();
+        let processes = not_started(alloc, count)?;
         let draws = Draws::for_host(row.seed, row.host.index);
         let parts = Parts::new(alloc, row.address, draws, count)?;
         let mut link = Link::new(alloc, &row);
-        link.begin_all(row.processes.as_slice())?;
-        let (events, _) = link.hand_out();
-        let queue = queue_of(alloc, events)?;
-        let processes = not_started(alloc, count)?;
+        let queue = link.begin(alloc, row.processes.as_slice())?;
         let body = Body {
             row,
             link,
@@ -91,15 +66,7 @@ impl Host {
         let key = event.key;
         let number = self.body.link.number();
         let made = self.body.fire(net, event)?;
-        let Made {
-            events,
-            lines,
-            outputs,
-        } = made;
-        hand_all_on(&mut self.queue, out, net, number, events)?;
-        out.add_lines(key, lines)?;
-        out.add_outputs(outputs)?;
-        Ok(())
+        hand_made_on(&mut self.queue, out, net, number, key, made)
     }
 
     /// The host holds one more event, whose key it does not hold, or gives it back for want of memory.

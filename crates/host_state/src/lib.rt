@@ -3,7 +3,6 @@
 
 mod acting;
 mod firing;
-mod handing;
 mod host;
 mod running;
 mod slice;

@@ -12,7 +12,8 @@ use Rattle.host_state.specs.Opening.{opening}
 use Rattle.host_state.specs.Fits.{model, IsEventOf, IsHostOf, FitsNet, OpensFit}
 use Rattle.host_link.specs.Home.{home}
 use Rattle.host_state.specs.HostRecord.{HostRecord}
-use Rattle.host_state.specs.HostStands.{Begins, with_events}
+use Rattle.host_link.specs.Handing.{with_events}
+use Rattle.host_state.specs.HostStands.{Begins}
 use Rattle.run_files.specs.Listed.{HostNames, listed, names_of}
 use Rattle.host_state.specs.Gains.{names_in}
 use Rattle.host_state.proofs.Openings.{opens_fit}

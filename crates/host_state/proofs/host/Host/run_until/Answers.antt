@@ -1,4 +1,3 @@
-use Rattle.std.proofs.Common.{refl, arith}
 use Rattle.host_state.proofs.Runs.{so_far_start, may_run_on, run_falls, so_far_on, has_run, may_run_same}
 use Rattle.host_state.proofs.host.Host.run_until.Goals as goal
 

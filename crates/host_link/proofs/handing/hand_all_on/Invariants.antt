@@ -1,8 +1,8 @@
 use Rattle.std.proofs.Common.{◌≡◌, ◌++◌}
 use Rattle.std.specs.Vec.Iter.{into_iter_items}
 use Rattle.host_link.specs.Outbox.{own_events, parcels_of}
-use Rattle.host_state.specs.HostStands.{with_events}
-use Rattle.host_state.proofs.handing.hand_all_on.Given as goal
+use Rattle.host_link.specs.Handing.{with_events}
+use Rattle.host_link.proofs.handing.hand_all_on.Given as goal
 
 -- what is there, and then what is left, are the whole
 abbrev pub invariant-loop-event : goal.invariant-loop-event

@@ -1,7 +1,7 @@
 use Rattle.std.proofs.Common.{◌≡◌}
 use Rattle.std.specs.Vec.Iter.{into_iter_items}
-use Rattle.host_state.specs.HostStands.{with_events}
-use Rattle.host_state.proofs.handing.hold_all.Given as goal
+use Rattle.host_link.specs.Handing.{with_events}
+use Rattle.host_link.proofs.handing.hold_all.Given as goal
 
 -- what is left gives the whole
 abbrev pub invariant-loop-event : goal.invariant-loop-event

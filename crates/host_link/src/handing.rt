@@ -1,12 +1,13 @@
-//! What becomes of the events that a host made.
+//! What becomes of what a host made.
 
 ghost use Rattle.std.specs.Prelude.{◌≡◌, ◌∷◌, [], OnOk};
 ghost use Rattle.event_order.specs.Events.{has_key};
-ghost use Rattle.host_state.specs.HostStands.{HandsOn, held_once, with_events};
+ghost use Rattle.host_link.specs.Handing.{HandsAllOn, HandsOn, held_once, with_events};
 
+use crate::net::Net;
+use crate::outbox::{Made, Outbox};
 use event_order::Queue;
-use host_link::{Net, Outbox};
-use sim_base::{Event, NoMemory};
+use sim_base::{Event, Key, NoMemory};
 
 /// A queue has one event more, unless it has its key.
 fn hold(queue: &mut Queue, event: Event) -> Result<(), NoMemory>
@@ -47,7 +48,7 @@ fn hand_on(
 }
 
 /// The events that a host made, in order.
-pub(crate) fn hand_all_on(
+fn hand_all_on(
     queue: &mut Queue,
     out: &mut Outbox,
     net: &Net,
@@ -60,4 +61,26 @@ pub(crate) fn hand_all_on(
         hand_on(queue, out, net, host, event)?;
     }
     Ok(())
+}
+
+/// What the firing of an event with this key made at a host: its own events join those that it holds,
+/// and the rest is added to `out`.
+pub fn hand_made_on(
+    queue: &mut Queue,
+    out: &mut Outbox,
+    net: &Net,
+    host: u32,
+    key: Key,
+    made: Made,
+) -> Result<(), NoMemory>
+    ensures { OnOk result (HandsAllOn net.now host key made queue.old queue.new out.old out.new) }
+{
+    let Made {
+        events,
+        lines,
+        outputs,
+    } = made;
+    hand_all_on(queue, out, net, host, events)?;
+    out.add_lines(key, lines)?;
+    out.add_outputs(outputs)
 }
