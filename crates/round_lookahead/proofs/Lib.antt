@@ -29,5 +29,4 @@ pub mod WorldGains
 pub mod WorldOpenings
 pub mod RoundPieces
 pub mod Reached
-pub mod Lookaheads
 pub mod StreamSteps

@@ -1,5 +1,6 @@
 -- What all workers leave, put back by number.
 use Rattle.std.proofs.Common.{◌≡◌, ℕ, zero, suc, ◌<◌, ◌≤◌, inl, inr, List, [], ◌∷◌, ◌++◌, Option, Some, None, IsSome, All, map, length, get_or, replicate, slice_get, refl, sym, ap, subst, ◌∙◌, arith, IsPermutation, Vec}
+use Rattle.std.specs.Prelude.{option_map}
 use Rattle.std.specs.declared.alloc.Global.{Global}
 use Rattle.std.proofs.lemmas.List.{length-map}
 use Rattle.std.proofs.lemmas.List.Sorted.{IsPermutation-sym}
@@ -10,6 +11,7 @@ use Rattle.host_link.specs.Net.{Net}
 use Rattle.host_link.specs.Home.{home}
 use Rattle.host_link.specs.Parcels.{parcel_event}
 use Rattle.run_files.specs.Written.{written_in}
+use Rattle.run_files.specs.declared.written.Written.{Written}
 use Rattle.host_state.specs.Running.{kept_line}
 use Rattle.list_weights.specs.Weights.{weigh, numbers_below}
 use Rattle.list_weights.proofs.Permutations.{weigh_permutation}
@@ -27,7 +29,7 @@ use Rattle.round_lookahead.specs.declared.world.retasking.Retasked.{Retasked}
 use Rattle.round_lookahead.specs.declared.world.settling.Settled.{Settled}
 use Rattle.round_lookahead.specs.inside.Arrivals.{Boxed}
 use Rattle.round_lookahead.specs.inside.Backs.{back_of, with_done, all_done, all_spilled, lines_done, took_by, row_arrivals, AreAtHome}
-use Rattle.round_lookahead.specs.inside.Retasks.{AreRetasked}
+use Rattle.round_lookahead.specs.inside.Retasks.{seen_in, AreRetasked}
 use Rattle.round_lookahead.specs.inside.Settles.{done_numbers, CanSettle, IsBack, HasSettled}
 use Rattle.round_lookahead.specs.Took.{took_in}
 use Rattle.round_lookahead.proofs.BackSteps.{IdsApart, in_slot, length_with_done}
@@ -108,26 +110,29 @@ module _ (count : ℕ) (works : List Worked) (rows : List (Vec Boxed Global)) (c
       let at : slice_get slots k ≡ Some (Some (back_of d.0)) = ap (λ (l : List (Option Back)). slice_get l k) is ∙ ap (slice_get full) (sym d.2) ∙ slot_of d.0 d.1 in
       subst (λ (o : Option Back). IsSome o) (sym (get_or_is slots k (Some (back_of d.0)) s at)) refl
 
-  module _ (slots : List (Option Back)) (slots_are : slots ≡ full) (backs : List Back) (backs_are : map Some backs ≡ slots) where
-    pub length_backs : length backs ≡ count
-    length_backs = sym (length-map backs (λ (b : Back). Some b)) ∙ ap length backs_are ∙ ap length slots_are ∙ length_full
+  module _ (slots : List (Option Back)) (slots_are : slots ≡ full) where
+    pub length_slots : length slots ≡ count
+    length_slots = ap length slots_are ∙ length_full
 
-    back_of_is : Each (λ (d : Done). slice_get backs d.id.index ≡ Some (back_of d)) ds
-    back_of_is d h = unmap_some backs d.id.index (back_of d) (ap (λ (l : List (Option Back)). slice_get l d.id.index) (backs_are ∙ slots_are) ∙ slot_of d h)
+    slot_at : Each (λ (d : Done). slice_get slots d.id.index ≡ Some (Some (back_of d))) ds
+    slot_at d h = ap (λ (l : List (Option Back)). slice_get l d.id.index) slots_are ∙ slot_of d h
 
-    module _ (new : List (Vec Boxed Global)) (r : Retasked) (retasked : AreRetasked backs new r) (s : Settled) (tasks_are : s.tasks ≡ r.tasks) (outputs_are : s.gained.outputs ≡ r.outputs) where
+    module _ (new : List (Vec Boxed Global)) (r : Retasked) (retasked : AreRetasked slots new r) (s : Settled) (tasks_are : s.tasks ≡ r.tasks) (outputs_are : s.gained.outputs ≡ r.outputs) where
       length_tasks : length s.tasks.items ≡ count
       length_tasks =
-          ap (λ (v : Vec HostTask Global). length v.items) tasks_are ∙ sym (length-map r.tasks.items (λ (t : HostTask). t.host)) ∙ ap length retasked.hosts
-          ∙ length-map backs (λ (b : Back). b.host) ∙ length_backs
+          ap (λ (v : Vec HostTask Global). length v.items) tasks_are ∙ sym (length-map r.tasks.items (λ (t : HostTask). Some t.host)) ∙ ap length retasked.hosts
+          ∙ length-map slots (option_map (λ (b : Back). b.host)) ∙ length_slots
 
-      outputs_is : written_in s.gained.outputs ≡ map (λ (b : Back). b.outputs.items) backs
-      outputs_is = ap written_in outputs_are ∙ retasked.outputs
+      outputs_is : map Some (written_in s.gained.outputs) ≡ seen_in (λ (b : Back). b.outputs.items) slots
+      outputs_is = ap (λ (w : Written). map Some (written_in w)) outputs_are ∙ retasked.outputs
 
-      tasks_is : {Y : Type 0} (f : HostTask → Y) (g : Back → Y) → map f r.tasks.items ≡ map g backs → (k : ℕ) (t : HostTask) (b : Back) → slice_get s.tasks.items k ≡ Some t → slice_get backs k ≡ Some b → f t ≡ g b
+      tasks_is : {Y : Type 0} (f : HostTask → Y) (g : Back → Y) → map (λ (t : HostTask). Some (f t)) r.tasks.items ≡ seen_in g slots → (k : ℕ) (t : HostTask) (b : Back) → slice_get s.tasks.items k ≡ Some t
+          → slice_get slots k ≡ Some (Some b) → f t ≡ g b
       tasks_is f g same k t b at there =
           some_is (f t) (g b)
-          (sym (get-map f s.tasks.items k t at) ∙ ap (λ (v : Vec HostTask Global). slice_get (map f v.items) k) tasks_are ∙ ap (λ (l : List _). slice_get l k) same ∙ get-map g backs k b there)
+          (some_is (Some (f t)) (Some (g b))
+          (sym (get-map (λ (x : HostTask). Some (f x)) s.tasks.items k t at) ∙ ap (λ (v : Vec HostTask Global). slice_get (map (λ (x : HostTask). Some (f x)) v.items) k) tasks_are
+          ∙ ap (λ (l : List (Option _)). slice_get l k) same ∙ get-map (option_map g) slots k (Some b) there))
 
       is_back : Each (IsBack s) ds
       is_back d h =
@@ -138,9 +143,10 @@ module _ (count : ℕ) (works : List Worked) (rows : List (Vec Boxed Global)) (c
           record {
             task = found.0;
             at = found.1;
-            id = tasks_is (λ (t : HostTask). t.id) (λ (x : Back). x.id) retasked.ids k found.0 (back_of d) found.1 (back_of_is d h);
-            host = tasks_is (λ (t : HostTask). t.host) (λ (x : Back). x.host) retasked.hosts k found.0 (back_of d) found.1 (back_of_is d h);
-            outputs = ap (λ (l : List (List Output)). slice_get l k) outputs_is ∙ get-map (λ (x : Back). x.outputs.items) backs k (back_of d) (back_of_is d h);
+            id = tasks_is (λ (t : HostTask). t.id) (λ (x : Back). x.id) retasked.ids k found.0 (back_of d) found.1 (slot_at d h);
+            host = tasks_is (λ (t : HostTask). t.host) (λ (x : Back). x.host) retasked.hosts k found.0 (back_of d) found.1 (slot_at d h);
+            outputs = unmap_some (written_in s.gained.outputs) k d.outputs.items
+                (ap (λ (l : List (Option (List Output))). slice_get l k) outputs_is ∙ get-map (option_map (λ (x : Back). x.outputs.items)) slots k (Some (back_of d)) (slot_at d h));
           }
 
       pub has_settled : (spill : List Parcel) → spill ≡ all_spilled works → IsPermutation (row_arrivals new) (map parcel_event spill ++ row_arrivals rows)
@@ -150,7 +156,7 @@ module _ (count : ℕ) (works : List Worked) (rows : List (Vec Boxed Global)) (c
           let parcels : map (λ (t : HostTask). t.parcels) s.tasks.items ≡ new = ap (λ (v : Vec HostTask Global). map (λ (t : HostTask). t.parcels) v.items) tasks_are ∙ retasked.parcels in
           record {
             tasks_count = length_tasks;
-            outputs_count = ap length outputs_is ∙ length-map backs (λ (b : Back). b.outputs.items) ∙ length_backs;
+            outputs_count = sym (length-map (written_in s.gained.outputs) Some) ∙ ap length outputs_is ∙ length-map slots (option_map (λ (b : Back). b.outputs.items)) ∙ length_slots;
             hosts = All_from_Each (IsBack s) ds is_back;
             home = λ net to at. subst (AreAtHome net) (sym parcels) (theirs net (subst (All (λ (p : Parcel). home net (parcel_event p) ≡ p.to.index)) (sym is) to) at);
             packets = subst (λ (l : List (Vec Boxed Global)). IsPermutation (row_arrivals l) (map parcel_event (all_spilled works) ++ row_arrivals rows)) (sym parcels)

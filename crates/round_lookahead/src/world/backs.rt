@@ -1,5 +1,5 @@
 //! Hosts come back from workers.
-ghost use Rattle.std.specs.Prelude.{◌≡◌, ◌++◌, ◌∷◌, ◌<◌, [], Some, None, All, OnOk, IfOk, IsSome, length, map, replicate, slice_set};
+ghost use Rattle.std.specs.Prelude.{◌≡◌, ◌++◌, ◌∷◌, ◌<◌, [], Some, None, All, OnOk, IfOk, length, replicate, slice_set};
 ghost use Rattle.round_lookahead.specs.inside.Backs as spec;
 
 use crate::workers::worked::{Done, Worked};
@@ -50,14 +50,15 @@ fn put_done(
     ensures lines { OnOk result (lines.new.items ≡ lines.old.items ++ done.lines.items) }
     ensures took { OnOk result (took.new.items ≡ took.old.items ++ done.id ∷ []) }
 {
+    let mut done = done;
+    took.push(done.id)?;
+    lines.append(&mut done.lines)?;
     let Done {
         id,
         host,
-        lines: mut gained,
         outputs,
+        ..
     } = done;
-    took.push(id)?;
-    lines.append(&mut gained)?;
     slots[id.index as usize] = Some(Back { id, host, outputs });
     Ok(())
 }
@@ -112,19 +113,4 @@ pub(crate) fn put_back(
         put_worked(alloc, &mut returned, worked)?;
     }
     Ok(returned)
-}
-
-/// The hosts of slots, all of which are taken.
-pub(crate) fn all_back(alloc: Global, slots: Vec<Option<Back>>) -> Result<Vec<Back>, NoMemory>
-    requires { All (λ slot. IsSome slot) slots.items }
-    ensures { IfOk result (λ backs. map Some backs.items ≡ slots.items) }
-{
-    let mut backs = Vec::with_capacity(alloc, slots.len())?;
-    for slot in slots {
-        match slot {
-            Some(back) => backs.push(back)?,
-            None => unreachable!(),
-        }
-    }
-    Ok(backs)
 }

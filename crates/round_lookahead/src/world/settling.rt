@@ -4,7 +4,7 @@ ghost use Rattle.round_lookahead.specs.inside.Settles.{CanSettle, HasSettled};
 
 use crate::workers::host_task::HostTask;
 use crate::workers::worked::Worked;
-use crate::world::backs::{Returned, all_back, put_back};
+use crate::world::backs::{Returned, put_back};
 use crate::world::delivery::deliver;
 use crate::world::gained::Gained;
 use crate::world::merging::merge;
@@ -38,8 +38,7 @@ pub(crate) fn settle(
     } = put_back(alloc, count, works)?;
     merge(&mut lines)?;
     deliver(alloc, &mut rows, spill)?;
-    let backs = all_back(alloc, slots)?;
-    let Retasked { tasks, outputs } = retask(alloc, backs, rows)?;
+    let Retasked { tasks, outputs } = retask(alloc, slots, rows)?;
     Ok(Settled {
         tasks,
         gained: Gained {
