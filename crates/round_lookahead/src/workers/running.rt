@@ -10,19 +10,11 @@ ghost use Rattle.round_lookahead.specs.Tasks.{IsTask};
 ghost use Rattle.round_lookahead.specs.inside.Works.{HasRun, done_of};
 
 use crate::workers::host_task::{HostTask, due_of};
-use crate::workers::worked::Done;
 use host_link::{Net, Outbox};
 use host_state::Host;
 use sim_base::{Event, NoMemory, Parcel, Time, What};
 use std::alloc::Global;
 use std::mem;
-
-/// A task that was run, and the parcels that it made for other hosts.
-#[derive(Drop)]
-pub(crate) struct Finished {
-    pub(crate) done: Done,
-    pub(crate) parcels: Vec<Parcel>,
-}
 
 /// The event that a parcel is at its host.
 fn arrival(parcel: Parcel) -> Event
@@ -74,33 +66,4 @@ impl HostTask {
         ran?;
         Ok(out)
     }
-}
-
-/// Runs the task's host, with its parcels, up to the end.
-pub(crate) fn run_task(
-    alloc: Global,
-    net: &Net,
-    end: Time,
-    task: HostTask,
-) -> Result<Finished, NoMemory>
-    requires stop { net.now.stop.nanos ≤ latest_time }
-    requires until { end.nanos ≤ net.now.stop.nanos }
-    requires task { (h : HostRecord) × IsTask net.now task.id.index task h }
-    ensures to { IfOk result (λ f. All (λ parcel. parcel.to.index < length net.now.known.book) f.parcels.items) }
-    ensures run { IfOk result (λ f. (h : HostRecord) → IsTask net.now task.id.index task h → HasRun net.now end.nanos task h f.done f.parcels.items) }
-{
-    let mut task = task;
-    let Outbox {
-        parcels,
-        lines,
-        outputs,
-    } = task.run_here(alloc, net, end)?;
-    let HostTask { id, host, .. } = task;
-    let done = Done {
-        id,
-        host,
-        lines,
-        outputs,
-    };
-    Ok(Finished { done, parcels })
 }

@@ -11,10 +11,9 @@ ghost use Rattle.round_lookahead.specs.Works.{HostJob, IsWorkOf, IsWork};
 
 use crate::workers::host_task::HostTask;
 use crate::workers::posting::post_all;
-use crate::workers::running::{Finished, run_task};
-use crate::workers::worked::Worked;
+use crate::workers::worked::{Done, Worked};
 use host_inbox::{Boards, Carrier};
-use host_link::Net;
+use host_link::{Net, Outbox};
 use sim_base::{NoMemory, Parcel, Time};
 use std::alloc::Global;
 use steal_workers::{Gate, Next, Seat};
@@ -58,8 +57,19 @@ fn work_one(
         → (job : HostJob) × (job.number ≡ task.id.index) × IsWorkOf net.now end.nanos _worker tasks rec (jobs ++ job ∷ []) carrier.new.entries shift.new.worked) }
 {
     shift.worked.done.reserve(1)?;
-    let Finished { done, parcels } = run_task(alloc, net, end, task)?;
-    shift.worked.done.push_reserved(done);
+    let mut task = task;
+    let Outbox {
+        parcels,
+        lines,
+        outputs,
+    } = task.run_here(alloc, net, end)?;
+    let HostTask { id, host, .. } = task;
+    shift.worked.done.push_reserved(Done {
+        id,
+        host,
+        lines,
+        outputs,
+    });
     post_all(
         alloc,
         boards,
@@ -67,8 +77,7 @@ fn work_one(
         &mut shift.puts,
         parcels,
         &mut shift.worked.spill,
-    )?;
-    Ok(())
+    )
 }
 
 /// Takes a task and runs its host, and answers whether there may be more.
