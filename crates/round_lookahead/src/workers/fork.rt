@@ -42,7 +42,7 @@ fn work_at<G: Gate>(
     .ok();
 }
 
-/// All workers' rounds, side by side in so many threads. Where no thread can be made, they come one after another.
+/// All workers' rounds, side by side in so many threads, for which it waits. Where no thread can be made, they come one after another.
 pub(crate) fn fork<R: Threads + Sync, G: Gate + Sync>(
     rt: &R,
     alloc: Global,
@@ -51,19 +51,19 @@ pub(crate) fn fork<R: Threads + Sync, G: Gate + Sync>(
     boards: &Boards<Box<Parcel>>,
     gate: &G,
     threads: u32,
-    benches: &mut [Bench],
+    benches: &mut Vec<Bench>,
 )
     requires stop { net.now.stop.nanos ≤ latest_time }
     requires until { end.nanos ≤ net.now.stop.nanos }
     requires hosts { boards.now.hosts ≡ length net.now.known.book }
     requires few { length net.now.known.book ≤ most_inboxes }
     requires threads { 0 < threads }
-    requires ready { All (IsReady net.now boards.now) benches.old }
-    ensures { HaveWorked net.now end.nanos benches.old benches.new }
+    requires ready { All (IsReady net.now boards.now) benches.old.items }
+    ensures { HaveWorked net.now end.nanos benches.old.items benches.new.items }
 {
     for_each_mut(
         rt,
-        benches,
+        benches.as_mut_slice(),
         threads as usize,
         &|_, bench| { work_at(alloc, net, end, boards, gate, bench) },
     );

@@ -1,10 +1,10 @@
 //! All workers' rounds.
-ghost use Rattle.std.specs.Prelude.{◌≡◌, ◌≤◌, ◌<◌, ℕ, All, IfOk, length, vec_len};
+ghost use Rattle.std.specs.Prelude.{◌≡◌, ◌≤◌, ◌<◌, ◌++◌, ◌∷◌, [], ℕ, Some, IfOk, OnOk, length, map, vec_len};
 ghost use Rattle.sim_base.specs.Limits.{most_workers};
 ghost use Rattle.sim_base.specs.Units.{latest_time};
 ghost use Rattle.host_inbox.specs.Sizes.{most_inboxes};
 ghost use Rattle.host_state.specs.HostRecord.{HostRecord};
-ghost use Rattle.round_lookahead.specs.inside.Benches.{AreBenches, AreParts, HaveWorked, IsReady};
+ghost use Rattle.round_lookahead.specs.inside.Benches.{AreBenches, AreParts};
 ghost use Rattle.round_lookahead.specs.inside.Rounds.{IsRound};
 ghost use Rattle.round_lookahead.specs.Tasks.{AreTasks, AreTasksOf};
 
@@ -59,45 +59,13 @@ fn benches_of(
     Ok(benches)
 }
 
-/// Starts all workers in so many threads, and waits for them.
-fn fork_all<R: Threads + Sync, G: Gate + Sync>(
-    rt: &R,
-    alloc: Global,
-    net: &Net,
-    end: Time,
-    boards: &Boards<Box<Parcel>>,
-    gate: &G,
-    threads: u32,
-    benches: &mut Vec<Bench>,
-)
-    requires stop { net.now.stop.nanos ≤ latest_time }
-    requires until { end.nanos ≤ net.now.stop.nanos }
-    requires hosts { boards.now.hosts ≡ length net.now.known.book }
-    requires few { length net.now.known.book ≤ most_inboxes }
-    requires threads { 0 < threads }
-    requires ready { All (IsReady net.now boards.now) benches.old.items }
-    ensures { HaveWorked net.now end.nanos benches.old.items benches.new.items }
-{
-    fork(
-        rt,
-        alloc,
-        net,
-        end,
-        boards,
-        gate,
-        threads,
-        benches.as_mut_slice(),
-    );
-}
-
-/// Takes the benches apart. Some worker may have found no memory.
-fn parts_of(alloc: Global, benches: Vec<Bench>) -> Result<BenchParts, NoMemory>
-    ensures { IfOk result (λ parts. AreParts benches.items parts.seats.items parts.carriers.items parts.works.items) }
-{
-    let mut seats = Vec::new(alloc);
-    let mut carriers = Vec::new(alloc);
-    let mut works = Vec::new(alloc);
-    for bench in benches {
+impl BenchParts {
+    /// Takes one bench more apart. Its worker may have found no memory.
+    fn add(&mut self, bench: Bench) -> Result<(), NoMemory>
+        ensures seats { OnOk result (self.new.seats.items ≡ self.old.seats.items ++ bench.seat ∷ []) }
+        ensures carriers { OnOk result (self.new.carriers.items ≡ self.old.carriers.items ++ bench.carrier ∷ []) }
+        ensures works { OnOk result (map Some self.new.works.items ≡ map Some self.old.works.items ++ bench.worked ∷ []) }
+    {
         let Bench {
             seat,
             carrier,
@@ -107,15 +75,26 @@ fn parts_of(alloc: Global, benches: Vec<Bench>) -> Result<BenchParts, NoMemory>
         let Some(worked) = worked else {
             return Err(NoMemory);
         };
-        seats.push(seat)?;
-        carriers.push(carrier)?;
-        works.push(worked)?;
+        self.seats.push(seat)?;
+        self.carriers.push(carrier)?;
+        self.works.push(worked)?;
+        Ok(())
     }
-    Ok(BenchParts {
-        seats,
-        carriers,
-        works,
-    })
+}
+
+/// Takes the benches apart. Some worker may have found no memory.
+fn parts_of(alloc: Global, benches: Vec<Bench>) -> Result<BenchParts, NoMemory>
+    ensures { IfOk result (λ parts. AreParts benches.items parts.seats.items parts.carriers.items parts.works.items) }
+{
+    let mut parts = BenchParts {
+        seats: Vec::new(alloc),
+        carriers: Vec::new(alloc),
+        works: Vec::new(alloc),
+    };
+    for bench in benches {
+        parts.add(bench)?;
+    }
+    Ok(parts)
 }
 
 /// Runs the hosts of all tasks up to `end`, on so many workers in so many threads. Fails for want of memory alone.
@@ -145,7 +124,7 @@ pub(crate) fn run_beside<R: Threads + Sync, G: Gate + Sync>(
     };
     let (boards, carriers) = Boards::open(alloc, hosts, workers)?;
     let mut benches = benches_of(alloc, seats, carriers)?;
-    fork_all(rt, alloc, net, end, &boards, gate, threads, &mut benches);
+    fork(rt, alloc, net, end, &boards, gate, threads, &mut benches);
     let BenchParts {
         seats,
         carriers,
