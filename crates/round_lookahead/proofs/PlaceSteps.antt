@@ -1,11 +1,9 @@
 -- Hosts that were run in their places, and the packets that then wait for them.
-use Rattle.std.proofs.Common.{◌≡◌, ◌≢◌, ⊎_elim, length-set, get_or-set_same, get_or-set_other, ℕ, zero, suc, ◌-◌, ◌<◌, ◌≤◌, ◌^◌, List, [], ◌∷◌, ◌++◌, Option, Some, All, map, flat_map, length, replicate, slice_get, slice_set, get_or, refl, sym, ap, subst, ◌∙◌, append-nil, Vec, arith, IsPermutation}
+use Rattle.std.proofs.Common.{◌≡◌, ℕ, zero, suc, ◌-◌, ◌<◌, ◌≤◌, ◌^◌, List, [], ◌∷◌, ◌++◌, Option, Some, All, map, flat_map, length, replicate, slice_get, slice_set, get_or, refl, sym, ap, subst, ◌∙◌, append-nil, Vec, arith, IsPermutation}
 use Rattle.std.specs.Prelude.{Box}
 use Rattle.std.specs.declared.alloc.Global.{Global}
-use Rattle.std.proofs.lemmas.Bool.{cases_eq}
 use Rattle.std.proofs.lemmas.List.{length-map, with_items_is}
 use Rattle.std.specs.Vec.{with_items}
-use Rattle.std.proofs.lemmas.List.Elements.{All-append, All-cons, All-nil}
 use Rattle.sim_base.specs.declared.event.Event.{Event}
 use Rattle.sim_base.specs.declared.event.Parcel.{Parcel}
 use Rattle.sim_base.specs.declared.host.HostId.{HostId}
@@ -40,7 +38,7 @@ use Rattle.round_lookahead.specs.inside.Waits.{IsSameHosts, rows_of}
 use Rattle.round_lookahead.specs.Tasks.{waiting}
 use Rattle.round_lookahead.specs.Took.{hosts_below, took_in}
 use Rattle.round_lookahead.proofs.AloneSteps.{AreIdle, alone_round, holding, idle_spills}
-use Rattle.round_lookahead.proofs.DeliverySteps.{row-more}
+use Rattle.round_lookahead.proofs.DeliverySteps.{row-home, row-more}
 use Rattle.round_lookahead.proofs.SettleSteps.{get_or_is}
 use Rattle.round_lookahead.proofs.WaitSteps.{due_with, held_waits, waits_with}
 
@@ -92,22 +90,7 @@ module _ (ts : List HostTask) (i : ℕ) (d t : HostTask) (boxed : Boxed) (below 
       (row-more (rows_of ts) i row t.parcels boxed p within (sym (get_or_is (rows_of ts) i row row at_row)) more is)
 
   pub waits_home : (p : Parcel) → boxed.value ≡ p → (net : Net) → home net (parcel_event p) ≡ i → AreAtHome net (rows_of ts) → AreAtHome net (rows_of (slice_set ts i t))
-  waits_home p is net to all = subst (AreAtHome net) (sym set_is)
-      (λ k r under.
-      let same = length-set (rows_of ts) i t.parcels in
-      ⊎_elim
-      (λ (e : k ≡ i).
-      let new : get_or (slice_set (rows_of ts) i t.parcels) k r ≡ t.parcels = ap (λ (n : ℕ). get_or (slice_set (rows_of ts) i t.parcels) n r) e ∙ get_or-set_same (rows_of ts) i t.parcels r within in
-      let theirs : All (λ (b : Boxed). home net (parcel_event b.value) ≡ i) row.items = subst (λ (v : Vec Boxed Global). All (λ (b : Boxed). home net (parcel_event b.value) ≡ i) v.items) (get_or_is (rows_of ts) i row row at_row) (all i row within) in
-      let mine : home net (parcel_event boxed.value) ≡ i = ap (λ (q : Parcel). home net (parcel_event q)) is ∙ to in
-      subst (λ (v : Vec Boxed Global). All (λ (b : Boxed). home net (parcel_event b.value) ≡ k) v.items) (sym new)
-      (subst (λ (n : ℕ). All (λ (b : Boxed). home net (parcel_event b.value) ≡ n) t.parcels.items) (sym e)
-      (subst (All (λ (b : Boxed). home net (parcel_event b.value) ≡ i)) (sym more)
-      (All-append (λ (b : Boxed). home net (parcel_event b.value) ≡ i) row.items (boxed ∷ []) theirs
-      (All-cons (λ (b : Boxed). home net (parcel_event b.value) ≡ i) boxed [] mine (All-nil (λ (b : Boxed). home net (parcel_event b.value) ≡ i)))))))
-      (λ (n : k ≢ i).
-      subst (λ (v : Vec Boxed Global). All (λ (b : Boxed). home net (parcel_event b.value) ≡ k) v.items) (sym (get_or-set_other (rows_of ts) i k t.parcels r n)) (all k r (omega (arith, under, same))))
-      (cases_eq k i))
+  waits_home p is net to all = subst (AreAtHome net) (sym set_is) (row-home (rows_of ts) i row t.parcels boxed p within (sym (get_or_is (rows_of ts) i row row at_row)) more is net to all)
 
 -- ---- no packet waits
 

@@ -4,11 +4,22 @@ ghost use Rattle.host_link.specs.Parcels.{parcel_event};
 ghost use Rattle.host_link.specs.Home.{home};
 ghost use Rattle.host_link.specs.Net.{Net};
 ghost use Rattle.round_lookahead.specs.inside.Backs.{row_arrivals, AreAtHome};
-ghost use Rattle.round_lookahead.specs.inside.Waits.{IsSameHosts, rows_of};
+ghost use Rattle.round_lookahead.specs.inside.Waits.{HasMore, IsSameHosts, rows_of};
 
 use crate::workers::host_task::HostTask;
 use sim_base::{NoMemory, Parcel};
 use std::alloc::Global;
+
+impl HostTask {
+    /// A packet more waits for the host.
+    fn wait(&mut self, alloc: Global, parcel: Parcel) -> Result<(), NoMemory>
+        ensures { OnOk result (HasMore parcel self.old self.new) }
+    {
+        let boxed = Box::new(alloc, parcel)?;
+        self.parcels.push(boxed)?;
+        Ok(())
+    }
+}
 
 /// A packet joins those that wait for its host.
 fn wait_one(alloc: Global, tasks: &mut [HostTask], parcel: Parcel) -> Result<(), NoMemory>
@@ -18,10 +29,7 @@ fn wait_one(alloc: Global, tasks: &mut [HostTask], parcel: Parcel) -> Result<(),
     ensures theirs { OnOk result ((net : Net) → home net (parcel_event parcel) ≡ parcel.to.index → AreAtHome net (rows_of tasks.old) → AreAtHome net (rows_of tasks.new)) }
 {
     let to = parcel.to.index as usize;
-    let boxed = Box::new(alloc, parcel)?;
-    let task = &mut tasks[to];
-    task.parcels.push(boxed)?;
-    Ok(())
+    tasks[to].wait(alloc, parcel)
 }
 
 /// Packets join those that wait for their hosts.
