@@ -17,7 +17,7 @@ const PART: u64 = 8;
 
 /// What hosts had to do in a round: how many they are, what all of them had to do, and what the busiest had. Both are numbers of
 /// instructions, about, and no clause speaks of them.
-#[derive(Clone, Copy)]
+#[derive(Drop)]
 pub(crate) struct RoundLoad {
     hosts: u64,
     all: u64,
@@ -44,7 +44,11 @@ impl RoundLoad {
     /// Of all hosts, each of which had so much to do before the round.
     pub(crate) fn since(tasks: &[HostTask], before: &[u64]) -> RoundLoad {
         let mut load = RoundLoad::new();
-        for (task, before) in tasks.iter().zip(before.iter()) {
+        let mut works = before.iter();
+        for task in tasks {
+            let Some(before) = works.next() else {
+                break;
+            };
             load.add(task.work.saturating_sub(*before));
         }
         load
@@ -62,7 +66,7 @@ pub(crate) fn works_of(alloc: Global, tasks: &[HostTask]) -> Result<Vec<u64>, No
 
 /// What a round had to do beside its busiest host, which is what other threads can take off the caller: the mean of the last rounds,
 /// where the latest count most. None where nothing is known of any.
-#[derive(Clone, Copy)]
+#[derive(Drop)]
 pub(crate) struct Load {
     beside: Option<u64>,
 }
