@@ -39,7 +39,7 @@ loop-task-preserved g c =
           let ran = w.in_ok-out.ensures in
           rw (w.tasks-is, w.alone-is) (record {
             few = few;
-            to = subst (All (λ (p : Parcel). p.to.index < length c.args.net.now.known.book)) (sym kept.spill)
+            to = subst (All (λ (p : Parcel). p.to.index < length c.args.net.now.known.book)) (sym {A = List Parcel} kept.spill)
                 (All-append (λ (p : Parcel). p.to.index < length c.args.net.now.known.book) c.loop-task.alone.spill.items w.in_ok-out.out.parcels.items c.loop-task.invariant.to ran.to);
             run = subst (λ (n : ℕ). AreRunInPlace c.args.net.now c.args.end.nanos c.args.tasks.now n (slice_set c.loop-task.tasks i w.run_here.new.self) w.keep.new.self) next
                 (kept_more c.args.net.now c.args.end.nanos c.args.tasks.now c.loop-task.tasks i c.loop-task.alone t c.requires.tasks here r w.keep.new.self w.run_here.new.self w.in_ok-out.out
@@ -50,7 +50,7 @@ loop-task-preserved g c =
           let idle = c.is_busy.ensures.0 w.if-is_busy.false in
           rw (w.tasks-is, w.alone-is) (record {
             few = few;
-            to = subst (All (λ (p : Parcel). p.to.index < length c.args.net.now.known.book)) (sym passed.spill) c.loop-task.invariant.to;
+            to = subst (All (λ (p : Parcel). p.to.index < length c.args.net.now.known.book)) (sym {A = List Parcel} passed.spill) c.loop-task.invariant.to;
             run = subst (λ (n : ℕ). AreRunInPlace c.args.net.now c.args.end.nanos c.args.tasks.now n (slice_set c.loop-task.tasks i t) w.pass.new.self) next
                 (passed_more c.args.net.now c.args.end.nanos c.args.tasks.now c.loop-task.tasks i c.loop-task.alone t c.requires.tasks here r w.pass.new.self idle passed);
           })
