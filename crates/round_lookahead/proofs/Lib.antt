@@ -1,4 +1,5 @@
 pub mod Packets
+pub mod PostSteps
 pub mod TaskRuns
 pub mod WorkSteps
 pub mod AloneSteps
