@@ -1,5 +1,5 @@
 -- One bench more, and a worker's round at its bench.
-use Rattle.std.proofs.Common.{◌≡◌, ℕ, zero, suc, ◌+◌, ◌<◌, List, [], ◌∷◌, ◌++◌, Option, Some, None, Result, Ok, Err, map, length, get_or, refl, sym, ap, subst, ◌∙◌, arith}
+use Rattle.std.proofs.Common.{◌≡◌, ℕ, zero, suc, ◌+◌, ◌<◌, List, [], ◌∷◌, ◌++◌, Some, None, Result, Ok, Err, map, length, get_or, refl, sym, ap, subst, ◌∙◌, arith}
 use Rattle.std.specs.Result.{IfOk, OnOk, result_ok}
 use Rattle.steal_workers.specs.SeatViews.{SeatView, IsSameSeat, HasMark}
 use Rattle.host_link.specs.Net.{Net}

@@ -20,7 +20,7 @@ use Rattle.world_order.specs.Round.{in_order}
 use Rattle.world_order.specs.World as order
 use Rattle.world_order.proofs.Fires.{get-map}
 use Rattle.world_order.proofs.Homes.{some_is, get_below}
-use Rattle.world_order.proofs.Members.{IsIn, IsIn_permutation, Each, Each_from_All, All_from_Each}
+use Rattle.world_order.proofs.Members.{IsIn, IsIn_permutation, Each, All_from_Each}
 use Rattle.round_lookahead.specs.declared.workers.host_task.HostTask.{HostTask}
 use Rattle.round_lookahead.specs.declared.workers.worked.Done.{Done}
 use Rattle.round_lookahead.specs.declared.workers.worked.Worked.{Worked}

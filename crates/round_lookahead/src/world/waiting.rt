@@ -1,5 +1,5 @@
 //! Packets wait for the hosts in their places.
-ghost use Rattle.std.specs.Prelude.{◌≡◌, ◌++◌, ◌∷◌, ◌<◌, [], All, OnOk, IsPermutation, length, map};
+ghost use Rattle.std.specs.Prelude.{◌≡◌, ◌++◌, ◌∷◌, ◌<◌, All, OnOk, IsPermutation, length, map};
 ghost use Rattle.host_link.specs.Parcels.{parcel_event};
 ghost use Rattle.host_link.specs.Home.{home};
 ghost use Rattle.host_link.specs.Net.{Net};
