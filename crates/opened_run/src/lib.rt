@@ -3,4 +3,4 @@
 
 mod opened;
 
-pub use opened::{Opened, open};
+pub use opened::{Opened, open, prepare};

@@ -1,6 +1,6 @@
 //! What a run begins with: the rows of hosts and the net of its plan, and what is asked of the run.
 
-ghost use Rattle.std.specs.Prelude.{IfOk};
+ghost use Rattle.std.specs.Prelude.{◌≡◌, IfOk};
 ghost use Rattle.run_plan.specs.Limits.{KeepsToLimits};
 ghost use Rattle.run_plan.specs.Names.{AreRowsApart};
 ghost use Rattle.run_plan.specs.Routed.{IsRouted};
@@ -88,4 +88,18 @@ pub fn open(alloc: Global, run: Run) -> Result<Opened, NoMemory>
         rows,
         net,
     })
+}
+
+/// What a run begins with, and the name of its directory.
+pub fn prepare(alloc: Global, run: Run) -> Result<(Opened, Name), NoMemory>
+    requires limits { KeepsToLimits run.plan }
+    requires routed { IsRouted run.plan }
+    requires apart { AreRowsApart run.plan }
+    ensures opens { IfOk result (λ p. Opens run p.0) }
+    ensures opened { IfOk result (λ p. HasOpened p.0) }
+    ensures directory { IfOk result (λ p. p.1 ≡ p.0.directory) }
+{
+    let opened = open(alloc, run)?;
+    let directory = Name::from_str(alloc, opened.directory.as_str())?;
+    Ok((opened, directory))
 }

@@ -18,11 +18,12 @@ use Rattle.shadow_top.specs.inside.Ending.{PutsEnd, PutsAll}
 use Rattle.shadow_top.proofs.GrowLemmas.{AreBetween, with_append}
 use Rattle.shadow_top.proofs.PartLemmas.{between_after, between_more}
 
--- what is told of a world's connections, by what the code lists
-pub lines_are : (c : rounds.World) (w : World) → WorldStands c w → (listing : Listing) (streams es : List Stream) → listing ≡ c.listing → es ≡ streams → streams ≡ streams_in w
-    → told_puts (names_of listing) es ≡ stream_puts true w
-lines_are c w at listing streams es is same told =
+-- what is told of a world's connections, where they are asked for, by what the code lists
+pub lines_are : (asked : Bool) → asked ≡ true → (c : rounds.World) (w : World) → WorldStands c w → (listing : Listing) (streams es : List Stream) → listing ≡ c.listing → es ≡ streams
+    → streams ≡ streams_in w → told_puts (names_of listing) es ≡ stream_puts asked w
+lines_are asked are c w at listing streams es is same told =
     ap (λ (l : Listing). told_puts (names_of l) es) is ∙ ap (λ (ns : List HostNames). told_puts ns es) at.listed ∙ ap (λ (l : List Stream). told_puts (names_in w) l) (same ∙ told)
+    ∙ sym (ap (λ (b : Bool). stream_puts b w) are)
 
 module _ (load streams : Bool) (w : World) (old mid new : Option Content) where
   abbrev rest : List Put

@@ -3,7 +3,7 @@
 ghost use Rattle.std.specs.Prelude.{◌≡◌, ◌≢◌, ◌+◌, ◌<◌, ◌≤◌, ◌⊎◌, map, string_bytes, IfSome, IfOk};
 ghost use Rattle.run_outside.specs.Faults.{Rose};
 ghost use Rattle.run_outside.specs.Tally.{CountsWrites};
-ghost use Rattle.opened_run.specs.Opened.{Opens, HasOpened};
+ghost use Rattle.opened_run.specs.Opened.{HasOpened};
 ghost use Rattle.run_plan.specs.Limits.{KeepsToLimits, AreLimitsKept};
 ghost use Rattle.run_plan.specs.Line.{line_of};
 ghost use Rattle.run_plan.specs.Names.{AreRowsApart, AreNamesApart};
@@ -22,7 +22,7 @@ use crate::stop::{Answer, Stop, ended};
 use base_texts::{Name, Text};
 use config_lines::show_into;
 use net_run::{parts_are_between, put_notes};
-use opened_run::{Opened, open};
+use opened_run::{Opened, prepare};
 use out_text::FaultText;
 use round_lookahead::{World, one_result};
 use run_outside::{Sink, SinkTarget, Source, WriteError, put_all};
@@ -144,20 +144,6 @@ fn run_begun<K: Sink, G: Gate + Sync, R: Threads + Sync + AllocGlobal>(
     parts_are_between();
     put_notes(rt.alloc(), sink, opened.notes.as_slice())?;
     run_noted(rt, cores, gate, opened, sink)
-}
-
-/// What a run begins with, and the name of its directory.
-fn prepare(alloc: Global, run: Run) -> Result<(Opened, Name), NoMemory>
-    requires limits { KeepsToLimits run.plan }
-    requires routed { IsRouted run.plan }
-    requires apart { AreRowsApart run.plan }
-    ensures opens { IfOk result (λ p. Opens run p.0) }
-    ensures opened { IfOk result (λ p. HasOpened p.0) }
-    ensures directory { IfOk result (λ p. p.1 ≡ p.0.directory) }
-{
-    let opened = open(alloc, run)?;
-    let directory = Name::from_str(alloc, opened.directory.as_str())?;
-    Ok((opened, directory))
 }
 
 /// Makes the data directory, where it isn't there, and a run, and writes what it shows.
