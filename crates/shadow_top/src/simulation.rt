@@ -121,7 +121,8 @@ fn run_noted<K: Sink, G: Gate + Sync, R: Threads + Sync + AllocGlobal>(
         net,
         ..
     } = opened;
-    let workers = worker_count(parallelism, cores, rows.len() as u32);
+    let hosts = rows.len() as u32;
+    let workers = worker_count(parallelism, cores, hosts);
     let mut world = World::start(alloc, rows, net, lookahead)?;
     put_run(rt, workers, gate, &mut world, sink)?;
     put_ending(alloc, &world, is_self_load, streams, sink)

@@ -1,4 +1,4 @@
-use Rattle.std.proofs.Common.{sym, subst, All, Option}
+use Rattle.std.proofs.Common.{sym, subst, All, Option, arith}
 use Rattle.std.proofs.lemmas.Result.{err_from_is_err_and}
 use Rattle.run_outside.specs.Sink.{Content}
 use Rattle.run_files.specs.Listed.{HasIds, names_of}
@@ -7,6 +7,9 @@ use Rattle.run_files.specs.declared.listed.Listing.{Listing}
 use Rattle.shadow_top.proofs.OpenedLemmas.{has_rounds, host_rows_is}
 use Rattle.shadow_top.proofs.RunLemmas.{not_run, begins_own, rounds_stopped, run_ended, ended_small}
 use Rattle.shadow_top.proofs.simulation.run_noted.Goals as goal
+
+pub overflow_cast-hosts : goal.overflow_cast-hosts
+overflow_cast-hosts g c = let count = c.requires.rows.count in let few = c.requires.few in omega (arith, count, few, c.len-hosts.ensures)
 
 pub start-requires-clause-rows : goal.start-requires-clause-rows
 start-requires-clause-rows g c = host_rows_is c.args.opened c.requires
