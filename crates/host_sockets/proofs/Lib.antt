@@ -7,6 +7,7 @@ pub mod Placing
 pub mod SocketActs
 pub mod Taking
 pub mod Acting
+pub mod Acted
 pub mod UdpSlots
 pub mod UdpTold
 pub mod UdpCalls

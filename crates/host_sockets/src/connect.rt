@@ -30,9 +30,9 @@ impl Sockets {
         }
         let before = self.begin_act(k);
         let sock = &mut self.tcp[k];
-        sock.take_error(outlet, now, k, &mut self.gone)?;
+        let answer = sock.take_error(outlet, now, k, &mut self.gone);
         self.end_act(k, before);
-        Ok(())
+        answer
     }
 
     /// The error that the connection of the socket with a number keeps.
@@ -105,9 +105,9 @@ impl Sockets {
         }
         let before = self.begin_act(k);
         let sock = &mut self.tcp[k];
-        sock.open(outlet, now, k, own, other, &mut self.gone)?;
+        let answer = sock.open(outlet, now, k, own, other, &mut self.gone);
         self.end_act(k, before);
-        Ok(())
+        answer
     }
 
     /// `connect_tcp` but for the kept error, which it doesn't take.

@@ -64,9 +64,9 @@ impl Sockets {
         }
         let before = self.begin_act(k);
         let sock = &mut self.tcp[k];
-        sock.arrive(outlet, now, k, packet, &mut self.gone)?;
+        let answer = sock.arrive(outlet, now, k, packet, &mut self.gone);
         self.end_act(k, before);
-        Ok(())
+        answer
     }
 
     /// The listener of the socket with a number takes a segment.
@@ -85,9 +85,9 @@ impl Sockets {
         }
         let before = self.begin_act(k);
         let sock = &mut self.tcp[k];
-        sock.hear(outlet, now, k, packet, &mut self.gone)?;
+        let answer = sock.hear(outlet, now, k, packet, &mut self.gone);
         self.end_act(k, before);
-        Ok(())
+        answer
     }
 
     /// Whether the listener of the socket with a number makes a connection of a segment.
@@ -223,8 +223,8 @@ impl Sockets {
         }
         let before = self.begin_act(k);
         let sock = &mut self.tcp[k];
-        sock.expire(outlet, now, k, serial, &mut self.gone)?;
+        let answer = sock.expire(outlet, now, k, serial, &mut self.gone);
         self.end_act(k, before);
-        Ok(())
+        answer
     }
 }

@@ -52,9 +52,9 @@ impl Sockets {
         }
         let before = self.begin_act(k);
         let sock = &mut self.tcp[k];
-        let count = sock.write(outlet, now, k, bytes, &mut self.gone)?;
+        let answer = sock.write(outlet, now, k, bytes, &mut self.gone);
         self.end_act(k, before);
-        Ok(count)
+        answer
     }
 
     /// `send_tcp` but for the kept error, which it doesn't take.
@@ -147,9 +147,9 @@ impl Sockets {
         }
         let before = self.begin_act(k);
         let sock = &mut self.tcp[k];
-        let bytes = sock.read(outlet, now, k, count, &mut self.gone)?;
+        let answer = sock.read(outlet, now, k, count, &mut self.gone);
         self.end_act(k, before);
-        Ok(bytes)
+        answer
     }
 
     /// `recv_tcp` but for the kept error, which it doesn't take.
@@ -230,9 +230,9 @@ impl Sockets {
         }
         let before = self.begin_act(k);
         let sock = &mut self.tcp[k];
-        sock.shut(outlet, now, k, how, &mut self.gone)?;
+        let answer = sock.shut(outlet, now, k, how, &mut self.gone);
         self.end_act(k, before);
-        Ok(())
+        answer
     }
 
     /// Ends one direction of the connection of the TCP socket with a number, or both
@@ -267,8 +267,8 @@ impl Sockets {
         }
         let before = self.begin_act(k);
         let sock = &mut self.tcp[k];
-        sock.close(outlet, now, k, &mut self.gone)?;
+        let answer = sock.close(outlet, now, k, &mut self.gone);
         self.end_act(k, before);
-        Ok(())
+        answer
     }
 }
