@@ -1,5 +1,5 @@
 -- acts on the connection of a socket
-use Rattle.std.proofs.Common.{◌≡◌, ℕ, List, Option, Some, None}
+use Rattle.std.proofs.Common.{◌≡◌, ℕ, List, Option, Some, None, Result, Ok, Err, OnOk, subst}
 use Rattle.sim_base.specs.declared.time.Time.{Time}
 use Rattle.sock_tcp.specs.declared.connection.carried.Carried.{Carried}
 use Rattle.sock_tcp.specs.declared.connection.conn.Conn.{Conn}
@@ -10,7 +10,7 @@ use Rattle.sock_tcp.specs.connection.StandsFor.{StandsFor, Gives}
 use Rattle.host_wants.specs.Wanted.{Wanted}
 use Rattle.host_sockets.specs.declared.tcp_sock.TcpSock.{TcpSock}
 use Rattle.host_sockets.specs.TcpSocket.{TcpSocket, with_tcb}
-use Rattle.host_sockets.specs.TcpActs.{turned, turned_in}
+use Rattle.host_sockets.specs.TcpActs.{turned, turned_in, record_acts}
 use Rattle.host_sockets.specs.StandsFor.{ConnStands, SocketStands}
 use Rattle.host_sockets.specs.inside.StandsFor.{Brings}
 
@@ -22,6 +22,14 @@ acts_there now k act old new s (Some r) before' after' w v effects before left h
     let there : SocketStands (record old { conn = Some after' }) (with_tcb (act r).tcb s) =
     record { held = h.held; bound = h.bound; conn = g.conn; listener = h.listener; serial = h.serial; timers = h.timers } in
     brings s (act r) there g.segments g.timer
+
+-- the same where what brings it about may lack memory
+pub acts_then : {A E : Type 0} (now : Time) (k : ℕ) (act : Tcb → Turn) (old new : TcpSock) (before' after' : Conn) (w v : Wanted) (effects : Effects) (before left : List Carried) (answer : Result A E) → old.conn ≡ Some before' → ((r : Tcb) → StandsFor before' r → Gives after' effects (act r))
+    → OnOk answer ((x : TcpSocket) (t : Turn) → SocketStands (record old { conn = Some after' }) (with_tcb t.tcb x) → effects.segments.items ≡ t.sent → effects.timer ≡ timer_of t → Brings new v before left (turned now k t x w))
+    → OnOk answer ((s : TcpSocket) → SocketStands old s → Brings new v before left (record_acts now k act s w))
+acts_then now k act old new before' after' w v effects before left (Err e) is gives brings = tt
+acts_then now k act old new before' after' w v effects before left (Ok a) is gives brings = λ s h.
+    acts_there now k act old new s s.tcb before' after' w v effects before left h (subst (λ (o : Option Conn). ConnStands o s.tcb) is h.conn) gives brings
 
 -- what is read of it is that of the record
 pub told_there : {A : Type 0} (o : Option Tcb) (conn : Conn) (f : Option Tcb → A) (v : A) → ConnStands (Some conn) o → ((r : Tcb) → StandsFor conn r → v ≡ f (Some r)) → v ≡ f o

@@ -1,5 +1,5 @@
 -- acts on the connections that a listener keeps, and a connection that it gives
-use Rattle.std.proofs.Common.{◌≡◌, ℕ, ◌<◌, ◌≤◌, List, length, get_or, set, Option, Some, None, slice_get, Result, Ok, refl, sym, ap, subst, ◌∙◌}
+use Rattle.std.proofs.Common.{◌≡◌, ℕ, ◌<◌, ◌≤◌, List, length, get_or, set, Option, Some, None, slice_get, Result, Ok, Err, OnOk, refl, sym, ap, subst, ◌∙◌}
 use Rattle.sim_base.specs.declared.address.Addr.{Addr}
 use Rattle.sim_base.specs.declared.time.Time.{Time}
 use Rattle.sim_base.specs.Refusals.{◌>>=◌, ◌>>◌, or_refuse}
@@ -18,7 +18,7 @@ use Rattle.sock_tcp.specs.connection.Arrival.{takes_packet}
 use Rattle.sock_tcp.specs.connection.Process.{expires}
 use Rattle.sock_tcp.specs.listener.Dropped.{dropped}
 use Rattle.host_sockets.specs.Alarms.{kept_expires}
-use Rattle.host_sockets.specs.Arriving.{word_drawn, hears_in}
+use Rattle.host_sockets.specs.Arriving.{word_drawn, hears_in, listener_hears}
 use Rattle.host_wants.specs.declared.error.Refusal.{Refusal}
 use Rattle.host_wants.specs.declared.error.Refusal.TheVariants as refusal
 use Rattle.host_sockets.specs.declared.reply.Accepted.{Accepted}
@@ -52,7 +52,7 @@ brings_heard now k own other h gone s w w1 v timer new before kept sent started 
     }
 
 -- a listener that took a segment, and what its socket brings about
-pub hears_there : (now : Time) (p : Packet) (k : ℕ) (old new : TcpSock) (s : TcpSocket) (o : Option Listen) (before' after' : Listener) (w w1 v : Wanted) (effects : Effects) (before left : List Carried) → SocketStands old s → ListenerStands (Some before') o → Hears (hears p (draws_word w).0) before' after' effects → ((l : Listen) → ListensFor before' l → w1 ≡ word_drawn p l w) → ((l : Listen) → ListensFor before' l → left ≡ with_gone (dropped (takes_packet p) p.to p.from l) before) → ((s : TcpSocket) (h : Heard) (gone : List Tcb) (before left : List Carried) → SocketStands (record old { listener = Some after' }) (with_listen h.listen s) → effects.segments.items ≡ h.sent → effects.timer ≡ h.timer → left ≡ with_gone gone before → Brings new v before left (heard now k p.to p.from h gone s w1)) → Brings new v before left (hears_in now p k o s w)
+hears_there : (now : Time) (p : Packet) (k : ℕ) (old new : TcpSock) (s : TcpSocket) (o : Option Listen) (before' after' : Listener) (w w1 v : Wanted) (effects : Effects) (before left : List Carried) → SocketStands old s → ListenerStands (Some before') o → Hears (hears p (draws_word w).0) before' after' effects → ((l : Listen) → ListensFor before' l → w1 ≡ word_drawn p l w) → ((l : Listen) → ListensFor before' l → left ≡ with_gone (dropped (takes_packet p) p.to p.from l) before) → ((s : TcpSocket) (h : Heard) (gone : List Tcb) (before left : List Carried) → SocketStands (record old { listener = Some after' }) (with_listen h.listen s) → effects.segments.items ≡ h.sent → effects.timer ≡ h.timer → left ≡ with_gone gone before → Brings new v before left (heard now k p.to p.from h gone s w1)) → Brings new v before left (hears_in now p k o s w)
 hears_there now p k old new s None before' after' w w1 v effects before left h stands told drawn kept brings = absurd stands
 hears_there now p k old new s (Some l) before' after' w w1 v effects before left h stands told drawn kept brings =
     let heard_is = hears p (draws_word w).0 l in
@@ -63,8 +63,15 @@ hears_there now p k old new s (Some l) before' after' w w1 v effects before left
     subst (λ (x : Wanted). Brings new v before left (heard now k p.to p.from heard_is gone s x)) (drawn l stands)
     (brings s heard_is gone before left there tells.segments tells.timer (kept l stands))
 
+pub hears_then : {A E : Type 0} (now : Time) (p : Packet) (k : ℕ) (old new : TcpSock) (before' after' : Listener) (w w1 v : Wanted) (effects : Effects) (before left : List Carried) (answer : Result A E) → old.listener ≡ Some before' → Hears (hears p (draws_word w).0) before' after' effects → ((l : Listen) → ListensFor before' l → w1 ≡ word_drawn p l w) → ((l : Listen) → ListensFor before' l → left ≡ with_gone (dropped (takes_packet p) p.to p.from l) before)
+    → OnOk answer ((s : TcpSocket) (h : Heard) (gone : List Tcb) (before left : List Carried) → SocketStands (record old { listener = Some after' }) (with_listen h.listen s) → effects.segments.items ≡ h.sent → effects.timer ≡ h.timer → left ≡ with_gone gone before → Brings new v before left (heard now k p.to p.from h gone s w1))
+    → OnOk answer ((s : TcpSocket) → SocketStands old s → Brings new v before left (listener_hears now p k s w))
+hears_then now p k old new before' after' w w1 v effects before left (Err e) is told drawn kept brings = tt
+hears_then now p k old new before' after' w w1 v effects before left (Ok a) is told drawn kept brings = λ s h.
+    hears_there now p k old new s s.listen before' after' w w1 v effects before left h (subst (λ (o : Option Listener). ListenerStands o s.listen) is h.listener) told drawn kept brings
+
 -- the same of a timer
-pub expires_there : (now : Time) (k : ℕ) (timer : KeptTimer) (old new : TcpSock) (s : TcpSocket) (o : Option Listen) (before' after' : Listener) (w v : Wanted) (effects : Effects) (before left : List Carried) → SocketStands old s → ListenerStands (Some before') o → Hears (hears_timer timer.own timer.other) before' after' effects → ((l : Listen) → ListensFor before' l → left ≡ with_gone (dropped expires timer.own timer.other l) before) → ((s : TcpSocket) (h : Heard) (gone : List Tcb) (before left : List Carried) → SocketStands (record old { listener = Some after' }) (with_listen h.listen s) → effects.segments.items ≡ h.sent → effects.timer ≡ h.timer → left ≡ with_gone gone before → Brings new v before left (heard now k timer.own timer.other h gone s w)) → Brings new v before left (kept_expires now k timer o s w)
+expires_there : (now : Time) (k : ℕ) (timer : KeptTimer) (old new : TcpSock) (s : TcpSocket) (o : Option Listen) (before' after' : Listener) (w v : Wanted) (effects : Effects) (before left : List Carried) → SocketStands old s → ListenerStands (Some before') o → Hears (hears_timer timer.own timer.other) before' after' effects → ((l : Listen) → ListensFor before' l → left ≡ with_gone (dropped expires timer.own timer.other l) before) → ((s : TcpSocket) (h : Heard) (gone : List Tcb) (before left : List Carried) → SocketStands (record old { listener = Some after' }) (with_listen h.listen s) → effects.segments.items ≡ h.sent → effects.timer ≡ h.timer → left ≡ with_gone gone before → Brings new v before left (heard now k timer.own timer.other h gone s w)) → Brings new v before left (kept_expires now k timer o s w)
 expires_there now k timer old new s None before' after' w v effects before left h stands told kept brings = absurd stands
 expires_there now k timer old new s (Some l) before' after' w v effects before left h stands told kept brings =
     let heard_is = hears_timer timer.own timer.other l in
@@ -72,6 +79,13 @@ expires_there now k timer old new s (Some l) before' after' w v effects before l
     let there : SocketStands (record old { listener = Some after' }) (with_listen heard_is.listen s) =
     record { held = h.held; bound = h.bound; conn = h.conn; listener = tells.listen; serial = h.serial; timers = h.timers } in
     brings s heard_is (dropped expires timer.own timer.other l) before left there tells.segments tells.timer (kept l stands)
+
+pub expires_then : {A E : Type 0} (now : Time) (k : ℕ) (timer : KeptTimer) (old new : TcpSock) (before' after' : Listener) (w v : Wanted) (effects : Effects) (before left : List Carried) (answer : Result A E) → old.listener ≡ Some before' → Hears (hears_timer timer.own timer.other) before' after' effects → ((l : Listen) → ListensFor before' l → left ≡ with_gone (dropped expires timer.own timer.other l) before)
+    → OnOk answer ((s : TcpSocket) (h : Heard) (gone : List Tcb) (before left : List Carried) → SocketStands (record old { listener = Some after' }) (with_listen h.listen s) → effects.segments.items ≡ h.sent → effects.timer ≡ h.timer → left ≡ with_gone gone before → Brings new v before left (heard now k timer.own timer.other h gone s w))
+    → OnOk answer ((s : TcpSocket) → SocketStands old s → Brings new v before left (kept_expires now k timer s.listen s w))
+expires_then now k timer old new before' after' w v effects before left (Err e) is told kept brings = tt
+expires_then now k timer old new before' after' w v effects before left (Ok a) is told kept brings = λ s h.
+    expires_there now k timer old new s s.listen before' after' w v effects before left h (subst (λ (o : Option Listener). ListenerStands o s.listen) is h.listener) told kept brings
 
 -- what a listener gives, and its timers without that of the connection
 gives_up : (old new : TcpSock) (s : TcpSocket) (k' : Listener) (conn : Conn) (control : Control) (l : Listen) (a : Option (Tcb × Listen)) → SocketStands old s → AcceptsAs a l (Some conn) k' → ((r : Tcb) → StandsFor conn r → control ≡ r.control) → ((s : TcpSocket) (l : Listen) → SocketStands (record old { listener = Some k' }) s → s.listen ≡ Some l → SocketStands new (with_timers (timers_kept control.local control.peer l s.timers) s)) → TakesConn a s (Some conn) new

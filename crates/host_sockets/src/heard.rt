@@ -152,8 +152,7 @@ impl TcpSock {
     {
         if let Some(listener) = &mut self.listener {
             let effects = hear(outlet, listener, packet, gone)?;
-            self.bring_heard(outlet, now, place, packet.to, packet.from, effects)?;
-            return Ok(());
+            return self.bring_heard(outlet, now, place, packet.to, packet.from, effects);
         }
         Ok(())
     }
@@ -172,8 +171,7 @@ impl TcpSock {
     {
         if let Some(listener) = &mut self.listener {
             let effects = listener.timer(timer.own, timer.other, gone)?;
-            self.bring_heard(outlet, now, place, timer.own, timer.other, effects)?;
-            return Ok(());
+            return self.bring_heard(outlet, now, place, timer.own, timer.other, effects);
         }
         Ok(())
     }
@@ -191,11 +189,10 @@ impl TcpSock {
             → Brings self.new outlet.new gone.old.items gone.new.items (socket_expires now place serial s outlet.old)) }
     {
         if self.serial == serial {
-            self.expire_conn(outlet, now, place, gone)?;
-            return Ok(());
+            return self.expire_conn(outlet, now, place, gone);
         }
         if let Some(timer) = kept_timer(self.timers.as_slice(), serial) {
-            self.expire_kept(outlet, now, place, timer, gone)?;
+            return self.expire_kept(outlet, now, place, timer, gone);
         }
         Ok(())
     }

@@ -37,8 +37,7 @@ impl TcpSock {
     {
         if let Some(conn) = &mut self.conn {
             let effects = conn.arrive(packet)?;
-            self.bring_about(outlet, now, place, effects, gone)?;
-            return Ok(());
+            return self.bring_about(outlet, now, place, effects, gone);
         }
         Ok(())
     }
@@ -56,8 +55,7 @@ impl TcpSock {
     {
         if let Some(conn) = &mut self.conn {
             let effects = conn.timer()?;
-            self.bring_about(outlet, now, place, effects, gone)?;
-            return Ok(());
+            return self.bring_about(outlet, now, place, effects, gone);
         }
         Ok(())
     }
@@ -76,8 +74,7 @@ impl TcpSock {
     {
         if let Some(conn) = &mut self.conn {
             let effects = conn.app_shut(how)?;
-            self.bring_about(outlet, now, place, effects, gone)?;
-            return Ok(());
+            return self.bring_about(outlet, now, place, effects, gone);
         }
         Ok(())
     }
@@ -144,8 +141,7 @@ impl TcpSock {
         let alloc = self.alloc();
         if let Some(conn) = &mut self.conn {
             conn.take_error();
-            self.bring_about(outlet, now, place, Effects::none(alloc), gone)?;
-            return Ok(());
+            return self.bring_about(outlet, now, place, Effects::none(alloc), gone);
         }
         Ok(())
     }
@@ -167,8 +163,7 @@ impl TcpSock {
         let first = (word % (1 << 32)) as u32;
         let Opened { conn, effects } = Conn::open(self.alloc(), own, other, first)?;
         self.conn = Some(conn);
-        self.bring_about(outlet, now, place, effects, gone)?;
-        Ok(())
+        self.bring_about(outlet, now, place, effects, gone)
     }
 }
 

@@ -28,8 +28,7 @@ impl TcpSock {
     {
         if let Some(conn) = &mut self.conn {
             let effects = conn.app_close()?;
-            self.bring_about(outlet, now, place, effects, gone)?;
-            return Ok(());
+            return self.bring_about(outlet, now, place, effects, gone);
         }
         Ok(())
     }
@@ -62,7 +61,6 @@ impl TcpSock {
             return Ok(());
         }
         self.release();
-        self.close_conn(outlet, now, place, gone)?;
-        Ok(())
+        self.close_conn(outlet, now, place, gone)
     }
 }

@@ -117,7 +117,6 @@ impl TcpSock {
         let Effects { segments, timer } = effects;
         outlet.send_all(segments)?;
         self.start_timer(outlet, now, place, timer)?;
-        self.let_go(gone)?;
-        Ok(())
+        self.let_go(gone)
     }
 }

@@ -1,11 +1,9 @@
-use Rattle.std.proofs.Common.{subst}
 use Rattle.sock_tcp.specs.connection.Begin.{begin}
 use Rattle.sock_tcp.specs.connection.Process.{shuts}
-use Rattle.host_sockets.specs.StandsFor.{ConnStands}
-use Rattle.host_sockets.proofs.Acting.{acts_there}
+use Rattle.host_sockets.proofs.Acting.{acts_then}
 use Rattle.host_sockets.proofs.tcp_sock.TcpSock.shut.Goals as goal
 
 pub returns-in-Some : goal.returns-in-Some
-returns-in-Some c = λ s h.
-    acts_there c.args.now c.args.place (λ r. shuts c.args.how (begin r)) c.args.self.now c.bring_about.new.self s s.tcb c.in-Some.conn c.app_shut.new.self c.args.outlet.now c.bring_about.new.outlet c.in_ok-effects.effects c.args.gone.now.items c.bring_about.new.gone.items h
-    (subst (λ o. ConnStands o s.tcb) c.in-Some.is h.conn) c.in_ok-effects.ensures c.in_ok-bring_about.ensures
+returns-in-Some c =
+    acts_then c.args.now c.args.place (λ r. shuts c.args.how (begin r)) c.args.self.now c.bring_about.new.self c.in-Some.conn c.app_shut.new.self c.args.outlet.now c.bring_about.new.outlet c.in_ok-effects.effects c.args.gone.now.items c.bring_about.new.gone.items c.bring_about.result
+    c.in-Some.is c.in_ok-effects.ensures c.bring_about.ensures
