@@ -148,8 +148,7 @@ impl Sockets {
         ensures { (t : SocketsRecord) → Stand self.now t → Asks (listen_asked k t) result }
     {
         self.may_listen(k)?;
-        let at = self.bound_or_free(k)?;
-        Ok(at)
+        self.bound_or_free(k)
     }
 
     fn listen_at(&mut self, k: usize, at: Addr, backlog: i32)

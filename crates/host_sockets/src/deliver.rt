@@ -134,7 +134,7 @@ impl Sockets {
             → makes_record packet.now s.listen ≡ true → MakesRoom self.old self.new) }
     {
         if self.makes_record(k, packet) {
-            self.make_room()?;
+            return self.make_room();
         }
         Ok(())
     }
@@ -179,8 +179,7 @@ impl Sockets {
             self.record_arrive(outlet, now, k, packet)?;
             return Ok(Act::Recv);
         }
-        let act = self.deliver_to_listener(outlet, now, packet)?;
-        Ok(act)
+        self.deliver_to_listener(outlet, now, packet)
     }
 
     /// A packet arrives. Answers what the packet log tells of it: `Recv`, a socket, connection or
@@ -200,10 +199,7 @@ impl Sockets {
                 let act = self.deliver_datagram(packet.from, packet.to, bytes.as_slice())?;
                 Ok(act)
             }
-            Load::Tcp { .. } => {
-                let act = self.deliver_segment(outlet, now, packet)?;
-                Ok(act)
-            }
+            Load::Tcp { .. } => self.deliver_segment(outlet, now, packet),
         }
     }
 

@@ -63,8 +63,7 @@ fn hear(
     ensures wanted { OnOk result ((l : Listen) → ListensFor listener.old l → outlet.new ≡ word_drawn packet.now l outlet.old) }
     ensures gone { OnOk result ((l : Listen) → ListensFor listener.old l → gone.new.items ≡ with_gone (dropped (takes_packet packet.now) packet.now.to packet.now.from l) gone.old.items) }
 {
-    let effects = listener.arrive(packet, outlet.draws(), gone)?;
-    Ok(effects)
+    listener.arrive(packet, outlet.draws(), gone)
 }
 
 impl TcpSock {
@@ -100,7 +99,7 @@ impl TcpSock {
     {
         if let Some(length) = timer {
             let serial = start(outlet, now, place, length)?;
-            set_timer(&mut self.timers, own, other, serial)?;
+            return set_timer(&mut self.timers, own, other, serial);
         }
         Ok(())
     }

@@ -49,8 +49,7 @@ impl TcpSock {
         ensures { OnOk result ((s : TcpSocket) → SocketStands self.now s → ends.new.items ≡ ends.old.items ++ ends_of s) }
     {
         self.add_bound(ends)?;
-        self.add_record_end(ends)?;
-        Ok(())
+        self.add_record_end(ends)
     }
 }
 
@@ -109,8 +108,7 @@ impl Sockets {
         ensures { IfOk result (λ end. (t : SocketsRecord) → Stand self.now t → end ≡ with_port (tcp_ends t) at) }
     {
         if at.port == 0 {
-            let end = self.free_end(at.ip)?;
-            return Ok(end);
+            return self.free_end(at.ip);
         }
         Ok(Some(at))
     }

@@ -125,11 +125,9 @@ impl Sockets {
             → Stand self.new (put_tcp_at place s t)) }
     {
         if place < self.tcp.len() {
-            self.set_tcp(place, sock)?;
-            return Ok(());
+            return self.set_tcp(place, sock);
         }
-        self.push_tcp(place, sock)?;
-        Ok(())
+        self.push_tcp(place, sock)
     }
 
     /// Puts a TCP socket at the least number that is free, and answers it.
@@ -150,7 +148,6 @@ impl Sockets {
         ensures stands { OnOk result ((t : SocketsRecord) → Stand self.old t → Stand self.new (new_tcp t).1) }
     {
         let sock = TcpSock::fresh(self.alloc(), true);
-        let place = self.put_tcp(sock)?;
-        Ok(place)
+        self.put_tcp(sock)
     }
 }

@@ -118,7 +118,7 @@ impl TcpSock {
         ensures { OnOk result ((s : TcpSocket) → SocketStands self.now s → all.new.items ≡ with_gone (kept_records s.listen) all.old.items) }
     {
         if let Some(listener) = &self.listener {
-            listener.add_carried(all)?;
+            return listener.add_carried(all);
         }
         Ok(())
     }
@@ -128,8 +128,7 @@ impl TcpSock {
         ensures { OnOk result ((s : TcpSocket) → SocketStands self.now s → all.new.items ≡ with_gone (records_at s) all.old.items) }
     {
         self.add_own(all)?;
-        self.add_kept(all)?;
-        Ok(())
+        self.add_kept(all)
     }
 }
 
@@ -169,7 +168,6 @@ impl Sockets {
     {
         let all = self.all_carried(alloc)?;
         let pairs = paired(alloc, all.as_slice())?;
-        let streams = listed(alloc, &pairs)?;
-        Ok(streams)
+        listed(alloc, &pairs)
     }
 }

@@ -3,7 +3,6 @@
 ghost use Rattle.std.specs.Prelude.{◌≡◌, ◌≢◌, ◌<◌, ℕ, ◌==◌, true, false, Some, length, slice_get, IfSome};
 ghost use Rattle.std.specs.List.{list_any};
 ghost use Rattle.std.specs.HashMap.{get};
-ghost use Rattle.host_sockets.specs.declared.slots.Sought.TheVariants.{Record};
 ghost use Rattle.host_sockets.specs.TcpSocket.{TcpSocket};
 ghost use Rattle.host_sockets.specs.SocketsStand.{SocketStands};
 ghost use Rattle.host_sockets.specs.inside.Ends.{same_ends, ends_in, live_ends};
@@ -80,16 +79,6 @@ pub(crate) fn ends_at(socks: &[TcpSock], place: usize) -> Option<Ends>
     socks[place].live_ends()
 }
 
-/// The socket with the live connection of these ends is looked for.
-fn record_of(ends: Ends) -> Sought
-    ensures { result ≡ Record ends.own ends.other }
-{
-    Sought::Record {
-        own: ends.own,
-        other: ends.other,
-    }
-}
-
 /// Takes out the entry of a place at these ends. Those of other places stay.
 fn forget(places: &mut HashMap<Ends, usize>, place: usize, ends: Ends)
     ensures { (q : Ends) (k : ℕ) → k ≢ place → get same_ends places.old q ≡ Some k → get same_ends places.new q ≡ Some k }
@@ -120,7 +109,8 @@ fn is_anothers(places: &HashMap<Ends, usize>, socks: &[TcpSock], place: usize, e
             if found == place {
                 false
             } else {
-                sought_at(socks, found, record_of(ends))
+                let Ends { own, other } = ends;
+                sought_at(socks, found, Sought::Record { own, other })
             }
         }
         None => false,

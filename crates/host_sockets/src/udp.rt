@@ -31,8 +31,7 @@ impl Sockets {
         ensures { OnOk result ((t : SocketsRecord) → Stand self.old t → Stand self.new (put_udp_at place sock t)) }
     {
         self.udp.put(place, sock)?;
-        put_none(&mut self.udp_risen, place)?;
-        Ok(())
+        put_none(&mut self.udp_risen, place)
     }
 
     /// Makes a UDP socket, and answers its number, the least one that is free (`socket(2)`).
@@ -280,8 +279,7 @@ impl Sockets {
         ensures stands { OnOk result ((t : SocketsRecord) → Stand self.old t → Stand self.new (datagram_arrives from to bytes.now t).1) }
     {
         if let Some(k) = self.taker(from, to) {
-            let act = self.arrive_at(k, from, bytes)?;
-            return Ok(act);
+            return self.arrive_at(k, from, bytes);
         }
         Ok(Act::NoPort)
     }

@@ -134,10 +134,7 @@ pub(crate) fn recv(
     ensures at_most { IfOk result (λ datagram. length datagram.bytes ≤ count) }
 {
     match slot {
-        Some(sock) => {
-            let datagram = take_oldest(sock, alloc, count)?;
-            Ok(datagram)
-        }
+        Some(sock) => take_oldest(sock, alloc, count),
         None => Err(CallError::Refused(Refusal::Errno(Errno::Ebadf))),
     }
 }

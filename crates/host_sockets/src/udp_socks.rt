@@ -61,8 +61,7 @@ impl UdpSocks {
             self.table.set(place, Some(ends));
             return Ok(());
         }
-        self.push(sock)?;
-        Ok(())
+        self.push(sock)
     }
 
     /// Lets the socket at a place go.
