@@ -263,8 +263,7 @@ impl Sockets {
         let answer = udp_slot::arrive(slot, from, bytes);
         self.udp.table.set(k, udp_slot::ends(slot));
         self.end_udp_act(k, before);
-        let act = answer?;
-        Ok(act)
+        answer
     }
 
     /// A datagram arrives.

@@ -1,5 +1,6 @@
-use Rattle.std.proofs.Common.{subst, ap, arith}
-use Rattle.host_sockets.specs.Arriving.{datagram_in}
+use Rattle.std.proofs.Common.{◌≡◌, subst, ap, arith}
+use Rattle.std.proofs.lemmas.Result.{IfOk-weaker}
+use Rattle.host_sockets.specs.Arriving.{datagram_in, slot_arrives}
 use Rattle.host_sockets.specs.StandsFor.{Stand}
 use Rattle.host_sockets.proofs.Endings.{udp_act_ends}
 use Rattle.host_sockets.proofs.UdpTold.{told_then}
@@ -20,11 +21,13 @@ returns-then-k-len-clause-stands c = λ t h.
     subst (λ o. Stand c.args.self.now (datagram_in c.args.from c.args.bytes.now c.args.k o t).1) (told_no_udp c.args.self.now t c.args.k (λ o. o) h (omega (arith, c.args.self.now.udp.slots.ok.0))) h
 
 pub returns-clause-act : goal.returns-clause-act
-returns-clause-act c = λ t h.
-    (arrived_udp c.args.self.now c.end_udp_act.new.self t c.args.k c.slot_glance-before.result c.args.from c.args.bytes.now c.index_mut-slot.result.now c.arrive-answer.new.slot c.in_ok-act.act h (omega (arith, c.args.self.now.udp.slots.ok.0)) c.index_mut-slot.ensures.value c.slot_glance-before.ensures c.in_ok-act.ensures
-    (udp_act_ends c.args.self.now c.end_udp_act.new.self c.args.k c.slot_glance-before.result c.arrive-answer.new.slot (omega (arith, c.args.self.now.udp.slots.ok.0)) c.end_udp_act.ensures.own (ap (λ v. v.slots.items) c.end_udp_act.ensures.udp) c.end_udp_act.ensures.tcp c.end_udp_act.ensures.tcp_risen c.end_udp_act.ensures.gone c.end_udp_act.ensures.udp_risen)).0
+returns-clause-act c =
+    IfOk-weaker c.arrive-answer.result (λ act. (act, c.arrive-answer.new.slot) ≡ slot_arrives c.args.from c.args.bytes.now c.index_mut-slot.result.now) _ (λ act is t h.
+    (arrived_udp c.args.self.now c.end_udp_act.new.self t c.args.k c.slot_glance-before.result c.args.from c.args.bytes.now c.index_mut-slot.result.now c.arrive-answer.new.slot act h (omega (arith, c.args.self.now.udp.slots.ok.0)) c.index_mut-slot.ensures.value c.slot_glance-before.ensures is
+    (udp_act_ends c.args.self.now c.end_udp_act.new.self c.args.k c.slot_glance-before.result c.arrive-answer.new.slot (omega (arith, c.args.self.now.udp.slots.ok.0)) c.end_udp_act.ensures.own (ap (λ v. v.slots.items) c.end_udp_act.ensures.udp) c.end_udp_act.ensures.tcp c.end_udp_act.ensures.tcp_risen c.end_udp_act.ensures.gone c.end_udp_act.ensures.udp_risen)).0) c.arrive-answer.ensures
 
 pub returns-clause-stands : goal.returns-clause-stands
-returns-clause-stands c = λ t h.
-    (arrived_udp c.args.self.now c.end_udp_act.new.self t c.args.k c.slot_glance-before.result c.args.from c.args.bytes.now c.index_mut-slot.result.now c.arrive-answer.new.slot c.in_ok-act.act h (omega (arith, c.args.self.now.udp.slots.ok.0)) c.index_mut-slot.ensures.value c.slot_glance-before.ensures c.in_ok-act.ensures
-    (udp_act_ends c.args.self.now c.end_udp_act.new.self c.args.k c.slot_glance-before.result c.arrive-answer.new.slot (omega (arith, c.args.self.now.udp.slots.ok.0)) c.end_udp_act.ensures.own (ap (λ v. v.slots.items) c.end_udp_act.ensures.udp) c.end_udp_act.ensures.tcp c.end_udp_act.ensures.tcp_risen c.end_udp_act.ensures.gone c.end_udp_act.ensures.udp_risen)).1
+returns-clause-stands c =
+    IfOk-weaker c.arrive-answer.result (λ act. (act, c.arrive-answer.new.slot) ≡ slot_arrives c.args.from c.args.bytes.now c.index_mut-slot.result.now) _ (λ act is t h.
+    (arrived_udp c.args.self.now c.end_udp_act.new.self t c.args.k c.slot_glance-before.result c.args.from c.args.bytes.now c.index_mut-slot.result.now c.arrive-answer.new.slot act h (omega (arith, c.args.self.now.udp.slots.ok.0)) c.index_mut-slot.ensures.value c.slot_glance-before.ensures is
+    (udp_act_ends c.args.self.now c.end_udp_act.new.self c.args.k c.slot_glance-before.result c.arrive-answer.new.slot (omega (arith, c.args.self.now.udp.slots.ok.0)) c.end_udp_act.ensures.own (ap (λ v. v.slots.items) c.end_udp_act.ensures.udp) c.end_udp_act.ensures.tcp c.end_udp_act.ensures.tcp_risen c.end_udp_act.ensures.gone c.end_udp_act.ensures.udp_risen)).1) c.arrive-answer.ensures
