@@ -21,7 +21,7 @@ pub struct Image {
 }
 
 impl Model for Image {
-    ghost use Rattle.std.specs.Prelude.{◌+◌, ◌*◌, ◌≤◌, length, vec_len, All};
+    ghost use Rattle.std.specs.Prelude.{◌+◌, ◌*◌, ◌≤◌, vec_len, All};
     ghost use Rattle.elf_load.specs.ProgramImage.{ProgramImage, program_image_code};
 
     ghost Value = { ProgramImage };

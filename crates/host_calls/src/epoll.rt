@@ -1,6 +1,6 @@
 //! epoll_pwait.
 
-ghost use Rattle.std.specs.Prelude.{◌≡◌, ◌≤◌, nat_lt, length, map, Some, IfOk, IfSome};
+ghost use Rattle.std.specs.Prelude.{◌≤◌, nat_lt, length, map, Some, IfOk, IfSome};
 ghost use Rattle.sim_base.specs.Units.{latest_time};
 ghost use Rattle.host_sockets.specs.Sockets.{SocketsRecord};
 ghost use Rattle.host_sockets.specs.StandsFor.{Stand};

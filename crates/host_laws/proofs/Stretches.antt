@@ -1,10 +1,8 @@
 -- A slice has few answered calls, and its stretches are within the budget.
-use Rattle.std.proofs.Common.{◌≡◌, ℕ, zero, suc, ◌≤◌, inl, inr, ⊎_elim, List, [], ◌∷◌, All, Option, Some, None, slice_get, refl, sym, ap, subst, arith}
+use Rattle.std.proofs.Common.{◌≡◌, ℕ, zero, suc, ◌≤◌, ⊎_elim, List, [], ◌∷◌, Option, Some, None, slice_get, refl, sym, ap, subst, arith}
 use Rattle.std.proofs.lemmas.List.Elements.{All-nil, All-cons}
-use Rattle.sim_base.specs.declared.state.State.{State}
 use Rattle.rv32_machine.specs.declared.cpu.Cpu.{Cpu}
 use Rattle.rv32_machine.specs.Table.{state}
-use Rattle.rv32_machine.specs.Turn.{turn}
 use Rattle.rv32_machine.proofs.TurnLaws.{turn_is}
 use Rattle.file_calls.specs.declared.task.Task.{Task}
 use Rattle.host_link.specs.Net.{Net}
@@ -12,7 +10,7 @@ use Rattle.host_state.specs.Step.{Step}
 use Rattle.host_state.specs.Step as step
 use Rattle.host_state.specs.HostRecord.{HostRecord}
 use Rattle.host_state.specs.Slice.{slice, calls, calls_again, follows, after_step, runs_to_call}
-use Rattle.host_laws.specs.Stretches.{instructions, stretch, IsSlice, pauses, blocks, ends, answers, IsShortSlice}
+use Rattle.host_laws.specs.Stretches.{instructions, stretch, pauses, blocks, ends, answers, IsShortSlice}
 
 within_budget : (net : Net) (cpu : Cpu) (found : Option (Option Task)) → instructions net cpu found ≤ net.budget
 within_budget net cpu None = omega arith

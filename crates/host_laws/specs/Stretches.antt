@@ -1,5 +1,5 @@
 -- The stretches of a slice: what a process runs from one call to the next.
-use Rattle.std.specs.Prelude.{◌≡◌, ℕ, zero, suc, ◌≤◌, List, [], ◌∷◌, All, Option, Some, None, slice_get}
+use Rattle.std.specs.Prelude.{◌≡◌, ℕ, suc, ◌≤◌, List, [], ◌∷◌, All, Option, Some, None, slice_get}
 use Rattle.sim_base.specs.declared.state.State.{State}
 use Rattle.rv32_machine.specs.declared.cpu.Cpu.{Cpu}
 use Rattle.rv32_machine.specs.Table.{state}

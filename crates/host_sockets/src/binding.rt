@@ -9,7 +9,7 @@ use sock_tcp::Listener;
 use std::alloc::Global;
 
 impl TcpSock {
-    ghost use Rattle.std.specs.Prelude.{◌≡◌, ℤ, is_some};
+    ghost use Rattle.std.specs.Prelude.{◌≡◌, is_some};
     ghost use Rattle.sim_base.specs.declared.errno.Errno.TheVariants.{Einval};
     ghost use Rattle.sim_base.specs.Refusals.{refuse_if};
     ghost use Rattle.host_wants.specs.declared.error.Refusal.TheVariants as refusal;
@@ -62,7 +62,7 @@ impl TcpSock {
 }
 
 impl Sockets {
-    ghost use Rattle.std.specs.Prelude.{◌≡◌, IfOk};
+    ghost use Rattle.std.specs.Prelude.{◌≡◌};
     ghost use Rattle.host_sockets.specs.Sockets.{SocketsRecord, changes_at};
     ghost use Rattle.host_sockets.specs.TcpSocket.{with_bound};
     ghost use Rattle.host_sockets.specs.Binding.{tcp_bound, bind_begun, bind_asked, binds_tcp, listen_begun, listen_asked, listening, listens_tcp};

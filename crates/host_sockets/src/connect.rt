@@ -7,7 +7,7 @@ use host_wants::{CallError, Outlet, Refusal};
 use sim_base::{Addr, Book, Errno, NoMemory, Time, source_ip};
 
 impl Sockets {
-    ghost use Rattle.std.specs.Prelude.{◌≡◌, ◌<◌, ◌^◌, Ok, Err, IfOk, IfErr, OnOk, MatchResult};
+    ghost use Rattle.std.specs.Prelude.{◌≡◌, ◌<◌, Ok, Err, OnOk};
     ghost use Rattle.host_sockets.specs.Sockets.{SocketsRecord};
     ghost use Rattle.host_sockets.specs.TcpActs.{acts_at};
     ghost use Rattle.host_sockets.specs.Connecting.{connect_begun, connect_asked, opens, connects, connects_taking, error_takes, connect_waited, connect_answers};

@@ -21,7 +21,7 @@ pub(crate) fn at_port(ip: Ip, port: Option<u16>) -> Option<Addr>
 
 impl TcpSock {
     ghost use Rattle.std.specs.Prelude.{◌≡◌, ◌||◌, ◌++◌, OnOk};
-    ghost use Rattle.host_sockets.specs.TcpSocket.{TcpSocket, has_record, keeps_record, bound_end, record_end, ends_of};
+    ghost use Rattle.host_sockets.specs.TcpSocket.{TcpSocket, bound_end, record_end, ends_of};
     ghost use Rattle.host_sockets.specs.StandsFor.{SocketStands};
 
     /// Adds the end that it is bound to, if it is.

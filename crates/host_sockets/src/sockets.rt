@@ -29,7 +29,7 @@ pub struct Sockets {
 }
 
 impl Sockets {
-    ghost use Rattle.std.specs.Prelude.{◌≡◌, ◌<◌, ◌≤◌, ℕ, length, IfOk, OnOk};
+    ghost use Rattle.std.specs.Prelude.{◌≡◌, ◌<◌, ◌≤◌, length, IfOk, OnOk};
     ghost use Rattle.host_sockets.specs.TcpSocket.{TcpSocket};
     ghost use Rattle.host_sockets.specs.Sockets.{SocketsRecord, no_sockets, put_tcp_at, tcp_place, put_tcp, new_tcp};
     ghost use Rattle.host_sockets.specs.StandsFor.{SocketStands, Stand};

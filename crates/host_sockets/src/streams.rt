@@ -133,7 +133,7 @@ impl TcpSock {
 }
 
 impl Sockets {
-    ghost use Rattle.std.specs.Prelude.{◌≡◌, ◌++◌, [], flat_map, OnOk, IfOk};
+    ghost use Rattle.std.specs.Prelude.{◌≡◌, [], flat_map, OnOk, IfOk};
     ghost use Rattle.sock_tcp.specs.connection.Carried.{with_gone};
     ghost use Rattle.host_sockets.specs.Sockets.{SocketsRecord};
     ghost use Rattle.host_sockets.specs.Records.{records_at, records_of};

@@ -14,7 +14,7 @@ use std::alloc::Global;
 impl TcpSock {
     ghost use Rattle.std.specs.Prelude.{◌≡◌, ◌≤◌, length, OnOk, IfOk};
     ghost use Rattle.sock_tcp.specs.connection.Begin.{begin};
-    ghost use Rattle.sock_tcp.specs.connection.Process.{shuts, closes, expires};
+    ghost use Rattle.sock_tcp.specs.connection.Process.{shuts, expires};
     ghost use Rattle.host_sockets.specs.TcpSocket.{TcpSocket};
     ghost use Rattle.host_sockets.specs.TcpActs.{record_acts};
     ghost use Rattle.host_sockets.specs.Connecting.{opens, error_takes};

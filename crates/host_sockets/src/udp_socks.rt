@@ -19,7 +19,7 @@ pub struct UdpSocks {
 }
 
 impl UdpSocks {
-    ghost use Rattle.std.specs.Prelude.{◌≡◌, ◌<◌, ◌≤◌, ◌++◌, ◌∷◌, [], Some, None, length, slice_set, is_none, position, OnOk};
+    ghost use Rattle.std.specs.Prelude.{◌≡◌, ◌<◌, ◌++◌, ◌∷◌, [], Some, None, slice_set, is_none, position, OnOk};
     ghost use Rattle.std.specs.List.{position_or_len, flat_map};
     ghost use Rattle.sim_base.specs.Addresses.{least_free_port};
     ghost use Rattle.sock_udp.specs.Socket.{end_left};
