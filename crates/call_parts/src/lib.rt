@@ -17,7 +17,7 @@ pub use call::{Call, NetworkCall, PlainCall, WaitingCall};
 pub use epoll::{WaitPlan, is_any_seen, put_seen, tell, wait_deadline, wait_place, waits_unless};
 pub use making::{NewSocket, socket_asked};
 pub use messages::{Message, Room, is_quick, recv_place, refuse_flags};
-pub use options::{Asked, getsockopt_asked, number_of, setsockopt, tell_option, type_of};
+pub use options::{Asked, getsockopt_asked, number_of, tell_option, type_of};
 pub use plain::plain_row;
 pub use polling::{
     asked_events, asked_fd, count_one, entry_at, has_come, poll_deadline, poll_entries, with_events,

@@ -44,7 +44,7 @@ fn setsockopt_asked(
 }
 
 /// `setsockopt(2)`.
-pub fn setsockopt(
+pub(crate) fn setsockopt(
     fd: u32,
     level: u32,
     option: u32,
