@@ -50,13 +50,17 @@ impl Ord for Key {
 
     ghost matches_eq = { key_ties };
 
+    // Most keys differ in when they are due: only where they don't is the rest looked at.
     fn cmp(&self, other: &Key) -> Ordering {
-        self.due
-            .nanos
-            .cmp(&other.due.nanos)
-            .then(self.kind.number().cmp(&other.kind.number()))
-            .then(self.source.index.cmp(&other.source.index))
-            .then(self.number.cmp(&other.number))
+        match self.due.nanos.cmp(&other.due.nanos) {
+            Ordering::Equal => self
+                .kind
+                .number()
+                .cmp(&other.kind.number())
+                .then(self.source.index.cmp(&other.source.index))
+                .then(self.number.cmp(&other.number)),
+            order => order,
+        }
     }
 }
 
