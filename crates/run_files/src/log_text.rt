@@ -48,11 +48,14 @@ fn told_line(alloc: Global, hosts: &[HostListing], line: Logged) -> Result<LogLi
     })
 }
 
+/// Room for so many bytes is taken for each line, which few of them need more than.
+const LINE_ROOM: usize = 80;
+
 /// The text of lines.
 fn lines_text(alloc: Global, hosts: &[HostListing], lines: Vec<Logged>) -> Result<Text, NoMemory>
     ensures { IfOk result (λ text. text ≡ flat_map log_line (map (spec.told_line (map said hosts.now)) (kept_lines lines.items))) }
 {
-    let mut text = String::new(alloc);
+    let mut text = String::with_capacity(alloc, lines.len().saturating_mul(LINE_ROOM))?;
     for line in lines {
         let line = told_line(alloc, hosts, line)?;
         write!(text, "{line}\n")?;
