@@ -59,6 +59,9 @@ pub fn state_line(alloc: Global, into: &mut Text, state: State) -> Result<(), No
     into.push_str(line.as_str())
 }
 
+/// Room for so many bytes is taken for the name of a file, which few of them need more than.
+const NAME_ROOM: usize = 64;
+
 /// Adds the name of a file of a process, below the data directory, or leaves the text as it was.
 pub fn file_name(
     alloc: Global,
@@ -72,7 +75,8 @@ pub fn file_name(
     ensures err { OnErr result (into.new ≡ into.old) }
 {
     let suffix = suffix(kind);
-    let name = format!(in alloc; "hosts/{host}/{program}.{pid}{suffix}")?;
+    let mut name = String::with_capacity(alloc, NAME_ROOM)?;
+    write!(name, "hosts/{host}/{program}.{pid}{suffix}")?;
     into.push_str(name.as_str())
 }
 
