@@ -62,10 +62,14 @@ impl Outbox {
         Ok(())
     }
 
-    /// Adds what processes wrote.
+    /// Adds what processes wrote. Behind nothing it stands as it is, without a copy.
     pub(crate) fn add_outputs(&mut self, outputs: Vec<Output>) -> Result<(), NoMemory>
         ensures { OnOk result (spec.AddsOutputs outputs.items self.old self.new) }
     {
+        if self.outputs.is_empty() {
+            self.outputs = outputs;
+            return Ok(());
+        }
         let mut outputs = outputs;
         self.outputs.append(&mut outputs)?;
         Ok(())

@@ -37,6 +37,9 @@ impl Link {
         ensures { OnOk result (IsWire self.new outlet.new (spec.does_wants net.now own (self.old, outlet.old))) }
     {
         let wants = outlet.take_wants();
+        if wants.is_empty() {
+            return Ok(());
+        }
         for want in wants {
             self.do_want(outlet, net, own, want)?;
         }
