@@ -1,5 +1,5 @@
 //! A round on one worker: each host is run in its place.
-ghost use Rattle.std.specs.Prelude.{◌≡◌, ◌≤◌, ◌<◌, [], None, All, IfOk, OnOk, length};
+ghost use Rattle.std.specs.Prelude.{◌≡◌, ◌≤◌, ◌<◌, ◌++◌, [], None, All, IfOk, OnOk, length};
 ghost use Rattle.sim_base.specs.Units.{latest_time};
 ghost use Rattle.run_files.specs.Written.{written_in};
 ghost use Rattle.round_lookahead.specs.inside.Alone.{AreRunInPlace, HasKept, HasPassed};
@@ -26,6 +26,19 @@ pub(crate) struct Alone {
     pub(crate) load: RoundLoad,
 }
 
+/// Adds items behind others. Where there are no others, they stand in place of these, without a copy.
+fn join<T: Drop>(all: &mut Vec<T>, more: Vec<T>) -> Result<(), NoMemory>
+    ensures { OnOk result (all.new.items ≡ all.old.items ++ more.items) }
+{
+    if all.is_empty() {
+        *all = more;
+        return Ok(());
+    }
+    let mut more = more;
+    all.append(&mut more)?;
+    Ok(())
+}
+
 impl Alone {
     /// Nothing yet.
     fn new(alloc: Global) -> Alone
@@ -48,13 +61,13 @@ impl Alone {
         ensures { OnOk result (HasKept due out self.old self.new) }
     {
         let Outbox {
-            mut parcels,
-            mut lines,
+            parcels,
+            lines,
             outputs,
         } = out;
         self.outputs.push(outputs)?;
-        self.lines.append(&mut lines)?;
-        self.spill.append(&mut parcels)?;
+        join(&mut self.lines, lines)?;
+        join(&mut self.spill, parcels)?;
         self.due = earlier(self.due, due);
         self.load.add(work);
         Ok(())
