@@ -1,6 +1,7 @@
 //! What sockets are bound and connected to.
 
 ghost use Rattle.std.specs.Prelude.{◌≡◌, slice_index_or};
+ghost use Rattle.std.specs.Bool.{OnTrue};
 ghost use Rattle.sock_udp.specs.Socket.{is_bound_for, is_open_to};
 ghost use Rattle.sim_base.specs.Addresses.{is_taken};
 ghost use Rattle.udp_table.specs.Table.{local_in, end_in, takes_in};
@@ -9,10 +10,17 @@ ghost use Rattle.udp_table.specs.inside.Indexing.{at_place};
 use sim_base::{Addr, Ip};
 
 /// What a UDP socket is bound to and connected to.
-#[derive(Clone, Copy)]
+#[derive(Clone, Copy, PartialEq, Eq)]
 pub struct UdpEnds {
     pub local: Option<Addr>,
     pub peer: Option<Addr>,
+}
+
+/// Whether two sockets, where there are any, are bound and connected alike.
+pub(crate) fn are_alike(a: Option<UdpEnds>, b: Option<UdpEnds>) -> bool
+    ensures { OnTrue result (a ≡ b) }
+{
+    a == b
 }
 
 /// The socket at a place, if there is one.

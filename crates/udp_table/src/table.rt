@@ -7,7 +7,7 @@ ghost use Rattle.udp_table.specs.Table.{local_in, end_in, takes_in, bound_ends};
 ghost use Rattle.udp_table.specs.declared.index.Index.{Index};
 ghost use Rattle.udp_table.specs.inside.Indexing.{Changes, Indexes};
 
-use crate::ends::{UdpEnds, meets_in, takes};
+use crate::ends::{UdpEnds, are_alike, meets_in, takes};
 use crate::index::Index;
 use number_sets::{FIRST_GIVEN, GIVEN};
 use sim_base::{Addr, Errno, Ip, NoMemory};
@@ -122,7 +122,8 @@ impl UdpTable {
         Ok(())
     }
 
-    /// A socket that has a number is bound or connected otherwise, made or closed.
+    /// A socket that has a number is bound or connected otherwise, made or closed. After most acts it is as it was, and the index
+    /// has nothing to follow.
     pub fn set(&mut self, place: usize, is: Option<UdpEnds>)
         ensures { self.new ≡ slice_set self.old place is }
     {
@@ -130,6 +131,9 @@ impl UdpTable {
             return;
         }
         let was = self.places[place];
+        if are_alike(was, is) {
+            return;
+        }
         self.places[place] = is;
         follow(&mut self.index, place, was, is);
     }
