@@ -1,6 +1,7 @@
 //! Costs under numbers.
 
 ghost use Rattle.std.specs.Prelude.{◌≡◌, ◌≤◌, ◌^◌, [], IfOk, IfSome, IfNone, Some, None, length, map, slice_get, slice_index_or};
+ghost use Rattle.std.specs.Bool.{OnTrue};
 ghost use Rattle.net_routes.specs.inside.Numbers.{KeepNumbers, GetsNumberIf, GetNumbers};
 
 use crate::cost::Cost;
@@ -75,6 +76,44 @@ impl NumberedCosts {
         }
     }
 
+    /// Whether a cost has this number.
+    fn is_under(&self, number: u16, cost: Option<Cost>) -> bool
+        ensures { OnTrue result (slice_get self.now number ≡ Some cost) }
+    {
+        match self.costs.get(number as usize) {
+            Some(kept) => kept.get() == cost,
+            None => false,
+        }
+    }
+
+    /// The number of a cost, where it is the one behind another number, or that one itself.
+    fn number_near(&self, near: u16, cost: Option<Cost>) -> Option<u16>
+        ensures { IfSome result (λ n. slice_get self.now n ≡ Some cost) }
+    {
+        let next = near.wrapping_add(1);
+        if self.is_under(next, cost) {
+            return Some(next);
+        }
+        if self.is_under(near, cost) {
+            return Some(near);
+        }
+        None
+    }
+
+    /// The number of a cost, as `number_of` tells it. It is looked for near another number first, where costs that follow one
+    /// another in a row often are: they get their numbers so, and rows are alike.
+    fn number_from(&mut self, near: u16, cost: Option<Cost>) -> Result<Option<u16>, NoMemory>
+        ensures number { IfOk result (λ o. IfSome o (λ n. slice_get self.new n ≡ Some cost)) }
+        ensures full { IfOk result (λ o. IfNone o (2 ^ 16 ≤ length self.new)) }
+        ensures kept { KeepNumbers self.old self.new }
+        ensures added { GetsNumberIf cost self.old self.new }
+    {
+        match self.number_near(near, cost) {
+            Some(number) => Ok(Some(number)),
+            None => self.number_of(cost),
+        }
+    }
+
     /// The numbers of the costs of a row, or nothing where numbers don't last: all 65,536 are taken.
     pub fn numbers_of(
         &mut self,
@@ -88,9 +127,13 @@ impl NumberedCosts {
         ensures added { GetNumbers row.now self.old self.new }
     {
         let mut numbers = Vec::with_capacity(alloc, row.len())?;
+        let mut near = 0;
         for place in 0..row.len() {
-            match self.number_of(row.get(place))? {
-                Some(number) => numbers.push(number)?,
+            match self.number_from(near, row.get(place))? {
+                Some(number) => {
+                    numbers.push(number)?;
+                    near = number;
+                }
                 None => return Ok(None),
             }
         }

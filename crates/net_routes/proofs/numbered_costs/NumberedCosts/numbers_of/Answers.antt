@@ -8,7 +8,7 @@ use Rattle.net_routes.proofs.numbered_costs.NumberedCosts.numbers_of.Goals as go
 pub loop-place-preserved : goal.loop-place-preserved
 loop-place-preserved c =
     let old = c.loop-place.self in
-    let new = c.number_of.new.self in
+    let new = c.number_from.new.self in
     let row = c.args.row.now in
     let place = c.loop-place.place in
     let lt : place < length row = omega arith in
@@ -22,10 +22,10 @@ loop-place-preserved c =
     }
 
 pub returns-in_err-number-clause-added : goal.returns-in_err-number-clause-added
-returns-in_err-number-clause-added c = added_next c.args.row.now _ c.loop-place.self c.number_of.new.self c.loop-place.place c.get.result (omega arith) c.get.ensures c.loop-place.invariant.added c.in_err-number.ensures.added
+returns-in_err-number-clause-added c = added_next c.args.row.now _ c.loop-place.self c.number_from.new.self c.loop-place.place c.get.result (omega arith) c.get.ensures c.loop-place.invariant.added c.in_err-number.ensures.added
 
 pub returns-in_err-push-in-Some-clause-added : goal.returns-in_err-push-in-Some-clause-added
-returns-in_err-push-in-Some-clause-added c = added_next c.args.row.now _ c.loop-place.self c.number_of.new.self c.loop-place.place c.get.result (omega arith) c.get.ensures c.loop-place.invariant.added c.in_ok-number.ensures.added
+returns-in_err-push-in-Some-clause-added c = added_next c.args.row.now _ c.loop-place.self c.number_from.new.self c.loop-place.place c.get.result (omega arith) c.get.ensures c.loop-place.invariant.added c.in_ok-number.ensures.added
 
 pub returns-in-None-clause-added : goal.returns-in-None-clause-added
-returns-in-None-clause-added c = added_next c.args.row.now _ c.loop-place.self c.number_of.new.self c.loop-place.place c.get.result (omega arith) c.get.ensures c.loop-place.invariant.added c.in_ok-number.ensures.added
+returns-in-None-clause-added c = added_next c.args.row.now _ c.loop-place.self c.number_from.new.self c.loop-place.place c.get.result (omega arith) c.get.ensures c.loop-place.invariant.added c.in_ok-number.ensures.added
