@@ -96,12 +96,15 @@ impl<'a, R: Files + AllocGlobal, O: Write, E: Write> DiskSink<'a, R, O, E> {
         Ok(place)
     }
 
-    /// Adds bytes to a file of the directory.
+    /// Adds bytes to a file of the directory. Where there are none, the file is only made.
     fn put_file(&mut self, name: &str, piece: &[u8]) -> io::Result<usize>
         ensures fits { IfOk result (λ n. n ≤ length piece.now) }
         ensures tally { self.new.tally ≡ self.old.tally }
     {
         let place = self.opened(name)?;
+        if piece.is_empty() {
+            return Ok(0);
+        }
         self.kept[place].file.write(piece)
     }
 
