@@ -7,9 +7,10 @@ use Rattle.std.proofs.lemmas.List.Elements.{Contains-push, Contains-push_cases, 
 use Rattle.net_routes.specs.declared.cost.Cost.{Cost}
 use Rattle.net_routes.specs.declared.arc.Arc.{Arc}
 use Rattle.net_routes.specs.Cost.{nothing, IsAsGood}
-use Rattle.net_routes.specs.inside.Path.{Leads, then_arc, HasPath, HasWay, HasArc, IsBest}
+use Rattle.net_routes.specs.inside.Path.{Leads, then_arc, HasPath, HasWay, HasArc, IsBest, IsBestTo}
 use Rattle.net_routes.specs.inside.Search.{IsSettled}
 use Rattle.net_routes.proofs.CostLemmas.{good_trans}
+use Rattle.net_routes.proofs.ListLemmas.{some_same}
 use Rattle.net_routes.proofs.SearchLemmas.{nobody, none_settled, settled_cases}
 
 abbrev pub found : List (Option Cost) → ℕ → Option Cost
@@ -66,6 +67,49 @@ arcs_more best arcs x c lt either known good k = record {
       (Contains-push_cases arcs x h.arc h.leaves);
 }
 
+-- TO ONE PLACE
+
+pub to_none : (place : ℕ) → IsBestTo [] place None
+to_none place = record {
+  goes = λ c e. absurd (let never : ⊥ = cc in never);
+  least = λ c h. absurd (omega (arith, h.leaves.1));
+}
+
+-- one arc more, which leads elsewhere
+pub to_other : (arcs : List Arc) (x : Arc) (place : ℕ) (best : Option Cost) → (x.to ≡ place → ⊥) → IsBestTo arcs place best → IsBestTo (arcs ++ x ∷ []) place best
+to_other arcs x place best other k = record {
+  goes = λ c e. arc_still arcs x place c (k.goes c e);
+  least = λ c h. ⊎_elim
+      (λ (was : Contains arcs h.arc). k.least c (record { arc = h.arc; leaves = was; ends = h.ends; costs = h.costs }))
+      (λ (now : x ≡ h.arc). absurd (other (ap (λ (y : Arc). y.to) now ∙ h.ends)))
+      (Contains-push_cases arcs x h.arc h.leaves);
+}
+
+-- or there
+pub to_more : (arcs : List Arc) (x : Arc) (best : Option Cost) (c : Cost)
+    → (best ≡ Some c) ⊎ (c ≡ then_arc nothing x) → IfSome best (IsAsGood c) → IsAsGood c (then_arc nothing x)
+    → IsBestTo arcs x.to best → IsBestTo (arcs ++ x ∷ []) x.to (Some c)
+to_more arcs x best c either known good k = record {
+  goes = λ d t.
+      let Q : Cost → Type 0 = λ q. HasArc (arcs ++ x ∷ []) x.to q in
+      let here : HasArc (arcs ++ x ∷ []) x.to c = ⊎_elim
+      (λ (was : best ≡ Some c). arc_still arcs x x.to c (k.goes c was))
+      (λ (is : c ≡ then_arc nothing x). subst Q (sym is) (arc_now arcs x))
+      either in
+      subst Q (some_same c d t) here;
+  least = λ d h. ⊎_elim
+      (λ (was : Contains arcs h.arc).
+      let old = k.least d (record { arc = h.arc; leaves = was; ends = h.ends; costs = h.costs }) in
+      let S : Option Cost → Type 0 = λ o. IfSome o (IsAsGood c) in
+      let as_old : IsAsGood c old.0 = subst S old.1 known in
+      (c, refl, good_trans c old.0 d as_old old.2))
+      (λ (now : x ≡ h.arc).
+      let cost : then_arc nothing x ≡ d = ap (λ (y : Arc). then_arc nothing y) now ∙ h.costs in
+      let P : Cost → Type 0 = λ q. IsAsGood c q in
+      (c, refl, subst P cost good))
+      (Contains-push_cases arcs x h.arc h.leaves);
+}
+
 -- THE WAYS FROM A PLACE
 
 arc_of_path : (rows : List (List Arc)) (a b : ℕ) (c : Cost) (path : List Arc) → Leads rows a b path → length path ≡ 1 → fold then_arc nothing path ≡ c → HasArc (get_or rows a []) b c
@@ -94,20 +138,20 @@ path_some rows a b (x ∷ path) l other = omega arith
 true_false : true ≡ false → ⊥
 true_false e = cc
 
-pub ways_shortest : (rows : List (List Arc)) (start : ℕ) (alone paths : List (Option Cost)) → start < length paths
-    → IsBest (HasArc (get_or rows start [])) (found alone) → IsBest (HasPath rows start) (found paths)
-    → IsBest (HasWay rows true start) (found (set paths start (get_or alone start None)))
+pub ways_shortest : (rows : List (List Arc)) (start : ℕ) (alone : Option Cost) (paths : List (Option Cost)) → start < length paths
+    → IsBestTo (get_or rows start []) start alone → IsBest (HasPath rows start) (found paths)
+    → IsBest (HasWay rows true start) (found (set paths start alone))
 ways_shortest rows start alone paths lt k p =
-    let same_place : get_or (set paths start (get_or alone start None)) start None ≡ get_or alone start None = get_or-set_same paths start (get_or alone start None) None lt in
+    let same_place : get_or (set paths start alone) start None ≡ alone = get_or-set_same paths start alone None lt in
     record {
       goes = λ b c t. ⊎_elim
           (λ (same : b ≡ start).
-          let O : ℕ → Type 0 = λ q. get_or (set paths start (get_or alone start None)) q None ≡ Some c in
-          let here : get_or alone start None ≡ Some c = sym same_place ∙ subst O same t in
+          let O : ℕ → Type 0 = λ q. get_or (set paths start alone) q None ≡ Some c in
+          let here : alone ≡ Some c = sym same_place ∙ subst O same t in
           let P : ℕ → Type 0 = λ q. HasWay rows true start q c in
-          subst P (sym same) (way_of_arc rows true start start c (k.goes start c here)))
+          subst P (sym same) (way_of_arc rows true start start c (k.goes c here)))
           (λ (other : b ≡ start → ⊥).
-          let there : get_or paths b None ≡ Some c = sym (get_or-set_other paths start b (get_or alone start None) None other) ∙ t in
+          let there : get_or paths b None ≡ Some c = sym (get_or-set_other paths start b alone None other) ∙ t in
           let w = p.goes b c there in
           record {
             path = w.path;
@@ -122,12 +166,12 @@ ways_shortest rows start alone paths lt k p =
       least = λ b c w. ⊎_elim
           (λ (same : b ≡ start).
           let one = arc_of_path rows start b c w.path w.leads (w.may.one (inr (sym same))) w.costs in
-          let d = k.least b c one in
-          let O : ℕ → Type 0 = λ q. get_or alone q None ≡ Some d.0 in
-          let P : ℕ → Type 0 = λ q. get_or (set paths start (get_or alone start None)) q None ≡ Some d.0 in
-          (d.0, subst P (sym same) (same_place ∙ subst O same d.1), d.2))
+          let H : ℕ → Type 0 = λ q. HasArc (get_or rows start []) q c in
+          let d = k.least c (subst H same one) in
+          let P : ℕ → Type 0 = λ q. get_or (set paths start alone) q None ≡ Some d.0 in
+          (d.0, subst P (sym same) (same_place ∙ d.1), d.2))
           (λ (other : b ≡ start → ⊥).
           let d = p.least b c (record { path = w.path; leads = w.leads; costs = w.costs }) in
-          (d.0, get_or-set_other paths start b (get_or alone start None) None other ∙ d.1, d.2))
+          (d.0, get_or-set_other paths start b alone None other ∙ d.1, d.2))
           (cases_eq b start);
     }

@@ -9,7 +9,7 @@ ghost use Rattle.net_routes.specs.inside.Path.{AreArcs, HasWay, IsBest};
 ghost use Rattle.net_routes.specs.inside.Adjacency.{ends_of, IsAdjacency, AddsArc, cost_to};
 
 use crate::arc::{Arc, Arcs};
-use crate::arcs::cheapest_arcs;
+use crate::arcs::{cheapest_arc, cheapest_arcs};
 use crate::cost::Cost;
 use crate::hop::Hop;
 use crate::node_ids::NodeIds;
@@ -91,12 +91,13 @@ fn costs_of(
     ensures { IfOk result
         (λ best. IsBest (HasWay rows.now shortest start) (λ v. slice_index_or best.items v None)) }
 {
-    let alone = cheapest_arcs(alloc, rows.len(), rows[start].as_slice())?;
+    let arcs = rows[start].as_slice();
     if !shortest {
+        let alone = cheapest_arcs(alloc, rows.len(), arcs)?;
         return Ok(alone);
     }
     let mut best = cheapest_paths(alloc, rows, start)?;
-    best[start] = alone[start];
+    best[start] = cheapest_arc(arcs, start);
     Ok(best)
 }
 

@@ -2,8 +2,8 @@
 
 ghost use Rattle.std.specs.Prelude.{◌≡◌, ◌⊎◌, None, Some, length, All, IfOk, IfSome};
 ghost use Rattle.std.specs.List.{slice_index_or};
-ghost use Rattle.net_routes.specs.Cost.{IsAsGood};
-ghost use Rattle.net_routes.specs.inside.Path.{IsArc, HasArc, IsBest};
+ghost use Rattle.net_routes.specs.Cost.{IsAsGood, IsHopCost};
+ghost use Rattle.net_routes.specs.inside.Path.{IsArc, HasArc, IsBest, IsBestTo};
 
 use crate::arc::Arc;
 use crate::cost::{Cost, better, extended, no_cost};
@@ -39,4 +39,18 @@ pub fn cheapest_arcs(
         best[arc.to] = Some(cost);
     }
     Ok(best)
+}
+
+/// The cheapest cost of an arc to one place, where there is one.
+pub fn cheapest_arc(arcs: &[Arc], place: usize) -> Option<Cost>
+    requires { All (λ x. IsHopCost x.cost) arcs.now }
+    ensures { IsBestTo arcs.now place result }
+{
+    let mut best = None;
+    for arc in arcs {
+        if arc.to == place {
+            best = Some(better_of(best, extended(no_cost(), arc.cost)));
+        }
+    }
+    best
 }

@@ -49,3 +49,8 @@ AreArcs rows = (place : ℕ) (x : Arc) → Leaves rows place x → IsArc (length
 pub record IsBest (Has : ℕ → Cost → Type 0) (found : ℕ → Option Cost) : Type 0 where
   pub goes : (b : ℕ) (c : Cost) → found b ≡ Some c → Has b c
   pub least : (b : ℕ) (c : Cost) → Has b c → (d : Cost) × (found b ≡ Some d) × IsAsGood d c
+
+-- The same for one place.
+pub record IsBestTo (arcs : List Arc) (place : ℕ) (found : Option Cost) : Type 0 where
+  pub goes : (c : Cost) → found ≡ Some c → HasArc arcs place c
+  pub least : (c : Cost) → HasArc arcs place c → (d : Cost) × (found ≡ Some d) × IsAsGood d c
