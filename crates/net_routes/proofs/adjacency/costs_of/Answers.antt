@@ -1,6 +1,5 @@
-use Rattle.std.proofs.Common.{◌≡◌, ◌<◌, Bool, true, false, List, [], length, get_or, set, Option, None, ◌∙◌, sym, refl, subst, arith, rules}
+use Rattle.std.proofs.Common.{◌≡◌, ◌<◌, Bool, true, false, List, [], length, get_or, set, ◌∙◌, sym, refl, subst, arith, rules}
 use Rattle.std.proofs.lemmas.List.{get_or_read}
-use Rattle.net_routes.specs.declared.cost.Cost.{Cost}
 use Rattle.net_routes.specs.declared.arc.Arc.{Arc}
 use Rattle.net_routes.specs.inside.Path.{HasArc, HasWay, IsBest, IsBestTo}
 use Rattle.net_routes.proofs.SearchLemmas.{row_arcs}
