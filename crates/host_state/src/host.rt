@@ -26,10 +26,18 @@ pub(crate) struct Body {
 }
 
 /// A host, with the events that it holds.
-#[derive(Drop)]
 pub struct Host {
     pub(crate) body: Body,
     pub(crate) queue: Queue,
+}
+
+/// By hand, so that a crate that drops hosts need not prove anew how each of their parts is dropped.
+impl Drop for Host {
+    fn drop(self) {
+        let Host { body, queue } = self;
+        drop(body);
+        drop(queue);
+    }
 }
 
 impl Host {
