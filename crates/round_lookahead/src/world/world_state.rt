@@ -16,7 +16,6 @@ use sim_base::Time;
 /// of each host, what the packet log so far comes to, and what rounds had to do. The lookahead is the least
 /// latency from one host to another; with one host there is none. So that no round has to look for the first event of all hosts, when
 /// it is due stands beside them; none where there is no event.
-#[derive(Drop)]
 pub struct World {
     pub(crate) net: Net,
     pub(crate) lookahead: Option<Time>,
@@ -26,4 +25,23 @@ pub struct World {
     ghost told: { due ≡ first_due (flat_map waiting tasks.items) } by { Prim.hlevel props },
     pub(crate) counts: Counts,
     pub(crate) load: Load,
+}
+
+/// By hand, so that a crate that drops a world need not prove anew how each of its parts is dropped.
+impl Drop for World {
+    fn drop(self) {
+        let World {
+            net,
+            lookahead: _,
+            listing,
+            tasks,
+            due: _,
+            counts: _,
+            load,
+        } = self;
+        drop(net);
+        drop(listing);
+        drop(tasks);
+        drop(load);
+    }
 }
