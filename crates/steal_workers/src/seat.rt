@@ -16,13 +16,27 @@ use std::marker::Model;
 use std::snapshot::Snapshot;
 
 /// One worker's seat. It has a deque of its own, and steals from the others'.
-#[derive(Drop)]
 pub struct Seat<T> {
     place: u32,
     dealt: u32,
     shares: Vec<Share<T>>,
     trail: Trail<u32>,
     tasks: Snapshot<Vec<T>>,
+}
+
+/// By hand, so that a crate that drops seats need not prove anew how each of their parts is dropped.
+impl<T: Drop> Drop for Seat<T> {
+    fn drop(self) {
+        let Seat {
+            place: _,
+            dealt: _,
+            shares,
+            trail,
+            tasks: _,
+        } = self;
+        drop(shares);
+        drop(trail);
+    }
 }
 
 impl<T> Model for Seat<T> {
@@ -90,10 +104,14 @@ impl<T> Seat<T> {
         ensures numbers { (h : ℕ → ℕ) → weigh h self.numbers ≡ taken_weights h result.shares.items }
         ensures dealt { IsDealt self.deal.queues self.deal.tasks × (length self.deal.queues ≡ seat_count self.deal) }
     {
-        Stack {
-            place: self.place,
-            shares: self.shares,
-        }
+        let Seat {
+            place,
+            dealt: _,
+            shares,
+            trail: _,
+            tasks: _,
+        } = self;
+        Stack { place, shares }
     }
 
     /// The next task: of the seat's own deque, or else of the others from the next place on. No seat takes a task twice, so it
