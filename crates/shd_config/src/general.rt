@@ -9,6 +9,7 @@ use crate::fault::{ConfigError, ConfigKind};
 use crate::key::{Key, key_of};
 use crate::optional::{check_scalar, optional_time, optional_u32};
 use crate::overrides::Overrides;
+use crate::setting::set;
 use crate::steps::{below, checked, mapping_line, needed, refused};
 use crate::value::{read_mapping, read_stop_time, read_text};
 use base_texts::Name;
@@ -88,21 +89,26 @@ fn read_key(
 {
     match key {
         Some(Key::StopTime) => {
-            draft.stop_time = given_stop_time(alloc, overrides.stop_time.is_some(), pair)?;
+            let may_be_absent = overrides.stop_time.is_some();
+            let stop_time = given_stop_time(alloc, may_be_absent, pair);
+            set(&mut draft.stop_time, stop_time)
         }
-        Some(Key::Seed) => draft.seed = optional_u32(alloc, pair)?,
-        Some(Key::Parallelism) => draft.parallelism = optional_u32(alloc, pair)?,
-        Some(Key::BootstrapEndTime) => draft.bootstrap_end_time = optional_time(alloc, pair)?,
-        Some(Key::DataDirectory) => draft.data_directory = optional_directory(alloc, pair)?,
+        Some(Key::Seed) => set(&mut draft.seed, optional_u32(alloc, pair)),
+        Some(Key::Parallelism) => set(&mut draft.parallelism, optional_u32(alloc, pair)),
+        Some(Key::BootstrapEndTime) => {
+            set(&mut draft.bootstrap_end_time, optional_time(alloc, pair))
+        }
+        Some(Key::DataDirectory) => {
+            set(&mut draft.data_directory, optional_directory(alloc, pair))
+        }
         Some(
             Key::LogLevel
             | Key::HeartbeatInterval
             | Key::Progress
             | Key::ModelUnblockedSyscallLatency,
-        ) => check_scalar(alloc, pair)?,
-        _ => return Err(refused(alloc, ConfigKind::UnknownKey, pair)),
+        ) => check_scalar(alloc, pair),
+        _ => Err(refused(alloc, ConfigKind::UnknownKey, pair)),
     }
-    Ok(())
 }
 
 fn read_pairs(

@@ -2,13 +2,14 @@
 
 ghost use Rattle.std.specs.Prelude.{◌≡◌, None};
 ghost use Rattle.shd_config.specs.Steps.{Gives, Sets, Passes, optional, mapping_line, through, needed};
-ghost use Rattle.shd_config.specs.Values.{scalar_at};
+ghost use Rattle.shd_config.specs.Values.{text_at, scalar_at};
 ghost use Rattle.shd_config.specs.Network.{compression_at, file_key, file_row, file_of, file_at, graph_kind, kind_in, kind_in_row, is_switch, graph_alone, new_graph, graph_key, graph_row, gml_source, source_of, finished_graph, graph_of, graph_at};
 
 use crate::config::GraphSource;
 use crate::fault::{ConfigError, ConfigKind};
 use crate::key::{Key, key_of};
 use crate::optional::optional_text;
+use crate::setting::{set, set_some};
 use crate::steps::{below, checked, mapping_line, needed, refused, valued};
 use crate::value::{read_mapping, read_text};
 use base_texts::{Name, Text};
@@ -44,23 +45,25 @@ fn check_compression(alloc: Global, pair: &Pair) -> Result<(), ConfigError>
     Err(refused(alloc, ConfigKind::BadValue, pair))
 }
 
+/// The text of a scalar, which is a name.
+fn read_name(alloc: Global, pair: &Pair) -> Result<Name, ConfigError>
+    ensures { Gives result (text_at pair.now) }
+{
+    let text = read_text(alloc, pair)?;
+    Ok(Name::from_str(alloc, text)?)
+}
+
 fn read_file_key(
     alloc: Global,
     key: Option<Key>,
-    path: Option<Name>,
+    path: &mut Option<Name>,
     pair: &Pair,
-) -> Result<Option<Name>, ConfigError>
-    ensures { Gives result (file_key key path pair.now) }
+) -> Result<(), ConfigError>
+    ensures { Sets result path.new (file_key key path.old pair.now) }
 {
     match key {
-        Some(Key::Path) => {
-            let text = read_text(alloc, pair)?;
-            Ok(Some(Name::from_str(alloc, text)?))
-        }
-        Some(Key::Compression) => {
-            check_compression(alloc, pair)?;
-            Ok(path)
-        }
+        Some(Key::Path) => set_some(path, read_name(alloc, pair)),
+        Some(Key::Compression) => check_compression(alloc, pair),
         _ => Err(refused(alloc, ConfigKind::UnknownKey, pair)),
     }
 }
@@ -70,7 +73,7 @@ fn read_file_pairs(alloc: Global, pairs: &[Pair]) -> Result<Option<Name>, Config
 {
     let mut path = None;
     for pair in pairs {
-        path = read_file_key(alloc, key_of(pair.key.as_str()), path, pair)?;
+        read_file_key(alloc, key_of(pair.key.as_str()), &mut path, pair)?;
     }
     Ok(path)
 }
@@ -166,18 +169,17 @@ fn read_key(
     ensures { Sets result draft.new (graph_key kind key draft.old pair.now) }
 {
     match key {
-        Some(Key::Type) => draft.kind = Some(read_kind(alloc, pair)?),
+        Some(Key::Type) => set_some(&mut draft.kind, read_kind(alloc, pair)),
         Some(Key::Inline) => {
             check_alone(alloc, kind, draft.file.is_some(), pair)?;
-            draft.inline = optional_text(alloc, pair)?;
+            set(&mut draft.inline, optional_text(alloc, pair))
         }
         Some(Key::File) => {
             check_alone(alloc, kind, draft.inline.is_some(), pair)?;
-            draft.file = optional_file(alloc, pair)?;
+            set(&mut draft.file, optional_file(alloc, pair))
         }
-        _ => return Err(refused(alloc, ConfigKind::UnknownKey, pair)),
+        _ => Err(refused(alloc, ConfigKind::UnknownKey, pair)),
     }
-    Ok(())
 }
 
 fn new_graph() -> GraphDraft

@@ -1,6 +1,6 @@
 //! The key `hosts`.
 
-ghost use Rattle.std.specs.Prelude.{◌≡◌, [], map, unwrap_or, IfOk};
+ghost use Rattle.std.specs.Prelude.{◌≡◌, [], map, IfOk};
 ghost use Rattle.shd_config.specs.Values.{is_within};
 ghost use Rattle.shd_config.specs.Steps.{Gives, Sets, GivesSeen, through};
 ghost use Rattle.shd_config.specs.Host.{no_options, new_host, host_key, host_row, finished_host, host_of, host_at, hosts_row, hosts_at, chosen, completed};
@@ -12,6 +12,7 @@ use crate::lists::{Hosts, Processes};
 use crate::optional::{optional_address, optional_rate};
 use crate::options::{HostOptions, no_options, optional_options};
 use crate::process::optional_processes;
+use crate::setting::{set, set_or, set_some};
 use crate::steps::{below, checked, mapping_line, needed, refused};
 use crate::value::{read_mapping, read_u32};
 use base_texts::Name;
@@ -75,15 +76,6 @@ impl HostsRead {
     }
 }
 
-fn processes_or_none(alloc: Global, processes: Option<Processes>) -> Processes
-    ensures { result ≡ unwrap_or processes [] }
-{
-    match processes {
-        Some(processes) => processes,
-        None => Processes::from(Vec::new(alloc)),
-    }
-}
-
 fn read_key(
     alloc: Global,
     key: Option<Key>,
@@ -93,20 +85,23 @@ fn read_key(
     ensures { Sets result draft.new (host_key key draft.old pair.now) }
 {
     match key {
-        Some(Key::NetworkNodeId) => draft.network_node_id = Some(read_u32(alloc, pair)?),
-        Some(Key::IpAddr) => draft.ip_addr = optional_address(alloc, pair)?,
-        Some(Key::BandwidthUp) => draft.bandwidth_up = optional_rate(alloc, pair)?,
-        Some(Key::BandwidthDown) => draft.bandwidth_down = optional_rate(alloc, pair)?,
+        Some(Key::NetworkNodeId) => set_some(&mut draft.network_node_id, read_u32(alloc, pair)),
+        Some(Key::IpAddr) => set(&mut draft.ip_addr, optional_address(alloc, pair)),
+        Some(Key::BandwidthUp) => set(&mut draft.bandwidth_up, optional_rate(alloc, pair)),
+        Some(Key::BandwidthDown) => set(&mut draft.bandwidth_down, optional_rate(alloc, pair)),
         Some(Key::HostOptions) => {
-            draft.options = optional_options(alloc, pair)?.unwrap_or(no_options());
+            set_or(
+                &mut draft.options,
+                optional_options(alloc, pair),
+                no_options(),
+            )
         }
         Some(Key::Processes) => {
-            let processes = optional_processes(alloc, pair)?;
-            draft.processes = processes_or_none(alloc, processes);
+            let none = Processes::from(Vec::new(alloc));
+            set_or(&mut draft.processes, optional_processes(alloc, pair), none)
         }
-        _ => return Err(refused(alloc, ConfigKind::UnknownKey, pair)),
+        _ => Err(refused(alloc, ConfigKind::UnknownKey, pair)),
     }
-    Ok(())
 }
 
 fn new_host(alloc: Global) -> HostDraft

@@ -15,6 +15,7 @@ mod options;
 mod overrides;
 mod process;
 mod reading;
+mod setting;
 mod state;
 mod steps;
 mod value;

@@ -10,6 +10,7 @@ use crate::fault::{ConfigError, ConfigKind};
 use crate::graph::read_graph;
 use crate::key::{Key, key_of};
 use crate::optional::optional_truth;
+use crate::setting::{set, set_some};
 use crate::steps::{below, mapping_line, needed, refused, valued};
 use crate::value::{read_mapping, read_text};
 use net_iface::QueueRule;
@@ -63,12 +64,13 @@ fn read_key(
     ensures { Sets result draft.new (network_key key draft.old pair.now) }
 {
     match key {
-        Some(Key::Graph) => draft.graph = Some(read_graph(alloc, pair)?),
-        Some(Key::UseShortestPath) => draft.use_shortest_path = optional_truth(alloc, pair)?,
-        Some(Key::RouterQueue) => draft.router_queue = optional_queue_rule(alloc, pair)?,
-        _ => return Err(refused(alloc, ConfigKind::UnknownKey, pair)),
+        Some(Key::Graph) => set_some(&mut draft.graph, read_graph(alloc, pair)),
+        Some(Key::UseShortestPath) => {
+            set(&mut draft.use_shortest_path, optional_truth(alloc, pair))
+        }
+        Some(Key::RouterQueue) => set(&mut draft.router_queue, optional_queue_rule(alloc, pair)),
+        _ => Err(refused(alloc, ConfigKind::UnknownKey, pair)),
     }
-    Ok(())
 }
 
 fn new_network() -> NetworkDraft

@@ -1,12 +1,13 @@
 //! The keys `host_option_defaults` and `host_options`.
 
 ghost use Rattle.std.specs.Prelude.{◌≡◌, unwrap_or};
-ghost use Rattle.shd_config.specs.Steps.{Gives, optional, through};
+ghost use Rattle.shd_config.specs.Steps.{Gives, Sets, optional, through};
 ghost use Rattle.shd_config.specs.Host.{no_options, options_key, options_row, options_at};
 
 use crate::fault::{ConfigError, ConfigKind};
 use crate::key::{Key, key_of};
 use crate::optional::{check_scalar, optional_size, optional_truth};
+use crate::setting::set;
 use crate::steps::{below, refused};
 use crate::value::read_mapping;
 use std::alloc::Global;
@@ -31,19 +32,17 @@ pub fn no_options() -> HostOptions
 fn read_key(
     alloc: Global,
     key: Option<Key>,
-    draft: HostOptions,
+    draft: &mut HostOptions,
     pair: &Pair,
-) -> Result<HostOptions, ConfigError>
-    ensures { Gives result (options_key key draft pair.now) }
+) -> Result<(), ConfigError>
+    ensures { Sets result draft.new (options_key key draft.old pair.now) }
 {
-    let mut draft = draft;
     match key {
-        Some(Key::LogLevel) => check_scalar(alloc, pair)?,
-        Some(Key::PcapEnabled) => draft.pcap_enabled = optional_truth(alloc, pair)?,
-        Some(Key::PcapCaptureSize) => draft.pcap_capture_size = optional_size(alloc, pair)?,
-        _ => return Err(refused(alloc, ConfigKind::UnknownKey, pair)),
+        Some(Key::LogLevel) => check_scalar(alloc, pair),
+        Some(Key::PcapEnabled) => set(&mut draft.pcap_enabled, optional_truth(alloc, pair)),
+        Some(Key::PcapCaptureSize) => set(&mut draft.pcap_capture_size, optional_size(alloc, pair)),
+        _ => Err(refused(alloc, ConfigKind::UnknownKey, pair)),
     }
-    Ok(draft)
 }
 
 fn read_pairs(alloc: Global, pairs: &[Pair]) -> Result<HostOptions, ConfigError>
@@ -51,7 +50,7 @@ fn read_pairs(alloc: Global, pairs: &[Pair]) -> Result<HostOptions, ConfigError>
 {
     let mut draft = no_options();
     for pair in pairs {
-        draft = read_key(alloc, key_of(pair.key.as_str()), draft, pair)?;
+        read_key(alloc, key_of(pair.key.as_str()), &mut draft, pair)?;
     }
     Ok(draft)
 }

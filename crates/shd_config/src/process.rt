@@ -1,6 +1,6 @@
 //! The processes of a host.
 
-ghost use Rattle.std.specs.Prelude.{◌≡◌, ◌≤◌, ◌+◌, [], length, sum_by, min, nat_le, unwrap_or};
+ghost use Rattle.std.specs.Prelude.{◌≡◌, ◌≤◌, ◌+◌, [], length, sum_by, min, nat_le};
 ghost use Rattle.sim_base.specs.Limits.{most_text_bytes};
 ghost use Rattle.shd_config.specs.Steps.{Gives, Sets, GivesSeen, optional, through, item};
 ghost use Rattle.shd_config.specs.Values.{text_at, text_with, scalar_at};
@@ -14,6 +14,7 @@ use crate::fault::{ConfigError, ConfigKind};
 use crate::key::{Key, key_of};
 use crate::lists::{Processes, Variables};
 use crate::optional::{optional_signal, optional_time};
+use crate::setting::{set, set_or, set_some};
 use crate::state::optional_state;
 use crate::steps::{below, checked, fault, item_path, mapping_line, needed, refused, valued};
 use crate::value::{read_mapping, read_sequence, read_text, read_time};
@@ -193,24 +194,6 @@ fn read_path(alloc: Global, pair: &Pair) -> Result<Name, ConfigError>
     Ok(Name::from_str(alloc, text)?)
 }
 
-fn arguments_or_none(alloc: Global, args: Option<Texts>) -> Texts
-    ensures { result ≡ unwrap_or args [] }
-{
-    match args {
-        Some(args) => args,
-        None => Texts::new(alloc),
-    }
-}
-
-fn environment_or_none(alloc: Global, environment: Option<Variables>) -> Variables
-    ensures { result ≡ unwrap_or environment [] }
-{
-    match environment {
-        Some(environment) => environment,
-        None => Variables::from(Vec::new(alloc)),
-    }
-}
-
 fn read_key(
     alloc: Global,
     start: Option<Time>,
@@ -221,24 +204,30 @@ fn read_key(
     ensures { Sets result draft.new (process_key start key draft.old pair.now) }
 {
     match key {
-        Some(Key::Path) => draft.path = Some(read_path(alloc, pair)?),
+        Some(Key::Path) => set_some(&mut draft.path, read_path(alloc, pair)),
         Some(Key::Args) => {
-            let args = optional_arguments(alloc, pair)?;
-            draft.args = arguments_or_none(alloc, args);
+            let none = Texts::new(alloc);
+            set_or(&mut draft.args, optional_arguments(alloc, pair), none)
         }
         Some(Key::Environment) => {
-            let environment = optional_environment(alloc, pair)?;
-            draft.environment = environment_or_none(alloc, environment);
+            let none = Variables::from(Vec::new(alloc));
+            set_or(
+                &mut draft.environment,
+                optional_environment(alloc, pair),
+                none,
+            )
         }
-        Some(Key::StartTime) => draft.start_time = optional_time(alloc, pair)?,
-        Some(Key::ShutdownTime) => draft.shutdown_time = optional_shutdown(alloc, start, pair)?,
-        Some(Key::ShutdownSignal) => draft.shutdown_signal = optional_signal(alloc, pair)?,
+        Some(Key::StartTime) => set(&mut draft.start_time, optional_time(alloc, pair)),
+        Some(Key::ShutdownTime) => {
+            let shutdown_time = optional_shutdown(alloc, start, pair);
+            set(&mut draft.shutdown_time, shutdown_time)
+        }
+        Some(Key::ShutdownSignal) => set(&mut draft.shutdown_signal, optional_signal(alloc, pair)),
         Some(Key::ExpectedFinalState) => {
-            draft.expected_final_state = optional_state(alloc, pair)?;
+            set(&mut draft.expected_final_state, optional_state(alloc, pair))
         }
-        _ => return Err(refused(alloc, ConfigKind::UnknownKey, pair)),
+        _ => Err(refused(alloc, ConfigKind::UnknownKey, pair)),
     }
-    Ok(())
 }
 
 fn new_process(alloc: Global) -> ProcessDraft

@@ -20,6 +20,7 @@ use crate::network::{Network, read_network};
 use crate::notes::notes_of;
 use crate::options::{HostOptions, no_options, optional_options};
 use crate::overrides::Overrides;
+use crate::setting::{set, set_or, set_some};
 use crate::steps::{fault, needed, refused};
 use crate::value::read_mapping;
 use base_texts::Text;
@@ -72,16 +73,19 @@ fn read_key(
     ensures { Sets result draft.new (root_key overrides.now key draft.old pair.now) }
 {
     match key {
-        Some(Key::General) => draft.general = given_general(alloc, overrides, pair)?,
-        Some(Key::Network) => draft.network = Some(read_network(alloc, pair)?),
-        Some(Key::Hosts) => draft.hosts = Some(read_hosts(alloc, pair)?),
+        Some(Key::General) => { set(&mut draft.general, given_general(alloc, overrides, pair)) }
+        Some(Key::Network) => set_some(&mut draft.network, read_network(alloc, pair)),
+        Some(Key::Hosts) => set_some(&mut draft.hosts, read_hosts(alloc, pair)),
         Some(Key::HostOptionDefaults) => {
-            draft.options = optional_options(alloc, pair)?.unwrap_or(no_options());
+            set_or(
+                &mut draft.options,
+                optional_options(alloc, pair),
+                no_options(),
+            )
         }
-        Some(Key::Experimental) => check_experimental(alloc, pair)?,
-        _ => return Err(refused(alloc, ConfigKind::UnknownKey, pair)),
+        Some(Key::Experimental) => check_experimental(alloc, pair),
+        _ => Err(refused(alloc, ConfigKind::UnknownKey, pair)),
     }
-    Ok(())
 }
 
 fn new_root() -> RootDraft

@@ -1,12 +1,13 @@
 //! The key `expected_final_state`.
 
 ghost use Rattle.std.specs.Prelude.{◌≡◌, is_some};
-ghost use Rattle.shd_config.specs.Steps.{Gives, optional, through};
+ghost use Rattle.shd_config.specs.Steps.{Gives, Sets, optional, through};
 ghost use Rattle.shd_config.specs.Process.{new_state, state_alone, state_key, state_row, ended_state, state_of, running_state, state_at};
 
 use crate::fault::{ConfigError, ConfigKind};
 use crate::key::{Key, key_of};
 use crate::optional::{optional_signal, optional_u8};
+use crate::setting::set;
 use crate::steps::{below, checked, mapping_line, needed, refused, valued};
 use crate::value::read_text;
 use host_rows::FinalState;
@@ -32,24 +33,22 @@ fn check_alone(alloc: Global, other: bool, pair: &Pair) -> Result<(), ConfigErro
 fn read_key(
     alloc: Global,
     key: Option<Key>,
-    draft: StateDraft,
+    draft: &mut StateDraft,
     pair: &Pair,
-) -> Result<StateDraft, ConfigError>
-    ensures { Gives result (state_key key draft pair.now) }
+) -> Result<(), ConfigError>
+    ensures { Sets result draft.new (state_key key draft.old pair.now) }
 {
-    let mut draft = draft;
     match key {
         Some(Key::Exited) => {
             check_alone(alloc, draft.signaled.is_some(), pair)?;
-            draft.exited = optional_u8(alloc, pair)?;
+            set(&mut draft.exited, optional_u8(alloc, pair))
         }
         Some(Key::Signaled) => {
             check_alone(alloc, draft.exited.is_some(), pair)?;
-            draft.signaled = optional_signal(alloc, pair)?;
+            set(&mut draft.signaled, optional_signal(alloc, pair))
         }
-        _ => return Err(refused(alloc, ConfigKind::UnknownKey, pair)),
+        _ => Err(refused(alloc, ConfigKind::UnknownKey, pair)),
     }
-    Ok(draft)
 }
 
 fn read_pairs(alloc: Global, pairs: &[Pair]) -> Result<StateDraft, ConfigError>
@@ -60,7 +59,7 @@ fn read_pairs(alloc: Global, pairs: &[Pair]) -> Result<StateDraft, ConfigError>
         signaled: None,
     };
     for pair in pairs {
-        draft = read_key(alloc, key_of(pair.key.as_str()), draft, pair)?;
+        read_key(alloc, key_of(pair.key.as_str()), &mut draft, pair)?;
     }
     Ok(draft)
 }
