@@ -24,7 +24,7 @@ use net_iface::QueueRule;
 use net_routes::{RouteError, Routes, routes};
 use out_text::{HostLine, hosts_text};
 use run_outside::Source;
-use shd_config::Config;
+use shd_config::{Config, Hosts};
 use shd_values::Texts;
 use sim_base::{NoMemory, Time};
 use std::alloc::Global;
@@ -140,6 +140,36 @@ fn find_routes<R: Threads + Sync>(
     }
 }
 
+/// The routes that hosts need, and the least latency of these.
+#[derive(Drop)]
+struct Routed {
+    routes: Routes,
+    lookahead: Option<Time>,
+}
+
+/// The routes that the hosts of these rows need.
+fn route_rows<R: Threads + Sync>(
+    rt: &R,
+    alloc: Global,
+    graph: &Graph,
+    rows: &[HostRow],
+    shortest: bool,
+    parallelism: u32,
+    cores: u32,
+) -> Result<Routed, ReadStop>
+    ensures told { Meets (λ r. r.routes) (routed graph.now shortest (nodes_of rows.now)) result }
+    ensures whole { IfOk result (λ r. HasRoutes (nodes_of rows.now) r.routes) }
+    ensures later { IfOk result (λ r. TakeTime (nodes_of rows.now) r.routes) }
+    ensures least { IfOk result (λ r. IsLookahead (nodes_of rows.now) r.routes (nanos_of r.lookahead)) }
+{
+    let nodes = nodes_of(alloc, rows)?;
+    let count = u32::try_from(nodes.len()).unwrap_or(u32::MAX);
+    let workers = worker_count(parallelism, cores, count);
+    let routes = find_routes(rt, alloc, graph, &nodes, shortest, workers)?;
+    let lookahead = routes.least_between(&nodes);
+    Ok(Routed { routes, lookahead })
+}
+
 /// The line of each host.
 fn lines_of_hosts(alloc: Global, rows: &[HostRow]) -> Result<Vec<HostLine>, NoMemory>
     ensures { IfOk result (λ v. v.items ≡ map line_of_host rows.now) }
@@ -165,6 +195,23 @@ fn text_of_hosts(alloc: Global, rows: &[HostRow]) -> Result<Text, NoMemory>
     Ok(text)
 }
 
+/// What a configuration says of the run as a whole, and its hosts.
+fn parts_of(config: Config) -> (Settings, Hosts)
+    ensures settings { result.0 ≡ settings_of config }
+    ensures hosts { result.1 ≡ config.hosts }
+{
+    let settings = Settings {
+        stop_time: config.stop_time,
+        seed: config.seed,
+        parallelism: config.parallelism,
+        bootstrap_end_time: config.bootstrap_end_time,
+        data_directory: config.data_directory,
+        router_queue: config.router_queue,
+        notes: config.notes,
+    };
+    (settings, config.hosts)
+}
+
 /// What is run of a configuration in the file `name`, over a graph.
 #[tactic(auto, unfolding(crate::specs::Plan::run_of))]
 pub fn read_run<R: Threads + Sync, S: Source>(
@@ -184,40 +231,19 @@ pub fn read_run<R: Threads + Sync, S: Source>(
     ensures same { S.held source.new ≡ S.held source.old }
     ensures count { CountsSource result (S.faults source.old) (S.faults source.new) }
 {
-    let Config {
-        stop_time,
-        seed,
-        parallelism,
-        bootstrap_end_time,
-        data_directory,
-        graph: _graph,
-        use_shortest_path,
-        router_queue,
-        hosts,
-        notes,
-    } = config;
+    let shortest = config.use_shortest_path;
+    let (settings, hosts) = parts_of(config);
     let programs = programs_of(alloc, hosts.as_slice())?;
     let rows = host_rows(alloc, name, graph, &programs, hosts)?;
-    let nodes = nodes_of(alloc, rows.as_slice())?;
-    let count = u32::try_from(nodes.len()).unwrap_or(u32::MAX);
-    let workers = worker_count(parallelism, cores, count);
-    let routes = find_routes(rt, alloc, graph, &nodes, use_shortest_path, workers)?;
+    let workers = settings.parallelism;
+    let routed = route_rows(rt, alloc, graph, rows.as_slice(), shortest, workers, cores)?;
     let images = read_images(alloc, source, &programs)?;
-    let lookahead = routes.least_between(&nodes);
     let hosts_text = text_of_hosts(alloc, rows.as_slice())?;
     Ok(Plan {
-        settings: Settings {
-            stop_time,
-            seed,
-            parallelism,
-            bootstrap_end_time,
-            data_directory,
-            router_queue,
-            notes,
-        },
+        settings,
         rows,
-        routes,
-        lookahead,
+        routes: routed.routes,
+        lookahead: routed.lookahead,
         images: Images::from(images),
         hosts_text,
     })

@@ -173,28 +173,19 @@ pub fn read_plan<R: Threads + Sync, S: Source>(
     ensures same { S.held source.new ≡ S.held source.old }
     ensures count { CountsSource result (S.faults source.old) (S.faults source.new) }
 {
-    let Asked {
-        subject,
-        seed,
-        parallelism,
-        data_directory,
-        stop_time,
-        budget,
-        streams,
-        shows_config,
-    } = parse_words(alloc, words)?;
+    let asked = parse_words(alloc, words)?;
     let manner = Manner {
         overrides: Overrides {
-            seed,
-            parallelism,
-            data_directory,
-            stop_time,
+            seed: asked.seed,
+            parallelism: asked.parallelism,
+            data_directory: asked.data_directory,
+            stop_time: asked.stop_time,
         },
-        budget,
-        streams,
-        shows_config,
+        budget: asked.budget,
+        streams: asked.streams,
+        shows_config: asked.shows_config,
     };
-    match subject {
+    match asked.subject {
         Subject::File(name) => plan_file(rt, alloc, source, &manner, &name, cores),
         Subject::SelfLoad(hosts) => plan_self_load(rt, alloc, &manner, hosts, cores),
         Subject::Capture(name) => plan_capture(alloc, source, &name),
