@@ -15,10 +15,18 @@ use std::marker::Model;
 ///
 /// An event that is added and comes before all others stands by itself: most events are taken out from there, and are never
 /// in the map.
-#[derive(Drop)]
 pub struct Queue {
     first: Option<Event>,
     rest: BTreeMap<Key, What>,
+}
+
+/// By hand, so that a crate that drops a queue need not prove anew how each of their parts is dropped.
+impl Drop for Queue {
+    fn drop(self) {
+        let Queue { first, rest } = self;
+        drop(first);
+        drop(rest);
+    }
 }
 
 /// An event that had no room, for want of memory.

@@ -27,11 +27,18 @@ const PAGE_LIMIT: usize = 4096;
 /// Contracts see it as a finite map from addresses to bytes with their rights, the start of the heap, the break and
 /// the number of mapped pages.
 /// An access of several bytes may stand at any address, and touches all of them or, where it is `Bad`, none.
-#[derive(Drop)]
 pub struct Mem {
     table: PageTable,
     start: u32,
     end: u32,
+}
+
+/// By hand, so that a crate that drops a memory need not prove anew how each of their parts is dropped.
+impl Drop for Mem {
+    fn drop(self) {
+        let Mem { table, start: _, end: _ } = self;
+        drop(table);
+    }
 }
 
 impl Model for Mem {

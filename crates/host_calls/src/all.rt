@@ -5,9 +5,18 @@ use host_sockets::Sockets;
 
 /// All that a host's calls act on: its processes by their numbers (None: it hasn't started, or the
 /// host has let it go), what they share, and its sockets, which know its address.
-#[derive(Drop)]
 pub struct Parts {
     pub tasks: Vec<Option<Task>>,
     pub shared: Shared,
     pub sockets: Sockets,
+}
+
+/// By hand, so that a crate that drops a host's parts need not prove anew how each of their parts is dropped.
+impl Drop for Parts {
+    fn drop(self) {
+        let Parts { tasks, shared, sockets } = self;
+        drop(tasks);
+        drop(shared);
+        drop(sockets);
+    }
 }

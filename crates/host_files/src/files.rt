@@ -17,13 +17,23 @@ use std::marker::Model;
 /// The open files, pipes, timers and eventfds of a host, each by its number.
 ///
 /// Contracts see four lists. A number that is not taken names nothing, and acts on nothing.
-#[derive(Drop)]
 pub struct Files {
     files: Vec<Option<File>>,
     pipes: Vec<Option<Pipe>>,
     timers: Vec<Option<KeptTimer>>,
     eventfds: Vec<Option<Eventfd>>,
     alloc: Global,
+}
+
+/// By hand, so that a crate that drops files need not prove anew how each of their parts is dropped.
+impl Drop for Files {
+    fn drop(self) {
+        let Files { files, pipes, timers, eventfds, alloc: _ } = self;
+        drop(files);
+        drop(pipes);
+        drop(timers);
+        drop(eventfds);
+    }
 }
 
 impl Model for Files {

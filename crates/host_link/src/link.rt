@@ -19,7 +19,6 @@ const LIMIT: u64 = u64::MAX;
 
 /// A host's link: when it fires, its lanes, the number of its next event, and what the event that
 /// fires has made so far.
-#[derive(Drop)]
 pub struct Link {
     number: u32,
     time: Time,
@@ -28,6 +27,17 @@ pub struct Link {
     down: Lane,
     made: Vec<Event>,
     lines: Vec<Line>,
+}
+
+/// By hand, so that a crate that drops a link need not prove anew how each of their parts is dropped.
+impl Drop for Link {
+    fn drop(self) {
+        let Link { number: _, time: _, next: _, up, down, made, lines } = self;
+        drop(up);
+        drop(down);
+        drop(made);
+        drop(lines);
+    }
 }
 
 impl Model for Link {

@@ -86,7 +86,6 @@ impl From<Vec<Image>> for Images {
 /// the experiment, the budget of instructions between two calls, and the images of programs.
 ///
 /// Contracts see these as a record of plain values.
-#[derive(Drop)]
 pub struct Net {
     pub routes: Routes,
     pub known: Known,
@@ -99,6 +98,17 @@ pub struct Net {
     /// How many instructions a process may run from one call to the next.
     pub budget: u64,
     pub images: Images,
+}
+
+/// By hand, so that a crate that drops a net need not prove anew how each of their parts is dropped.
+impl Drop for Net {
+    fn drop(self) {
+        let Net { routes, known, nodes, bootstrap_end: _, stop: _, budget: _, images } = self;
+        drop(routes);
+        drop(known);
+        drop(nodes);
+        drop(images);
+    }
 }
 
 impl Model for Net {

@@ -15,7 +15,6 @@ use std::alloc::Global;
 /// The sockets of a host and their rises, by their numbers, the connections that closed ones leave
 /// behind, what those carried that are gone, and how many were made. After a call that answers want of
 /// memory nothing is known of them.
-#[derive(Drop)]
 pub struct Sockets {
     pub(crate) own: Ip,
     pub(crate) udp: UdpSocks,
@@ -26,6 +25,19 @@ pub struct Sockets {
     pub(crate) made: usize,
     pub(crate) index: Index,
     ghost indexed: { Indexes index tcp.items } by { Prim.hlevel props },
+}
+
+/// By hand, so that a crate that drops sockets need not prove anew how each of their parts is dropped.
+impl Drop for Sockets {
+    fn drop(self) {
+        let Sockets { own: _, udp, tcp, udp_risen, tcp_risen, gone, made: _, index } = self;
+        drop(udp);
+        drop(tcp);
+        drop(udp_risen);
+        drop(tcp_risen);
+        drop(gone);
+        drop(index);
+    }
 }
 
 impl Sockets {
