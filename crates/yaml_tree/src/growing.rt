@@ -104,7 +104,12 @@ impl Growing {
 fn is_among(key: &Scalar, rows: &[(Scalar, Child)]) -> bool
     ensures { result ≡ list_any (λ row. pointwise ◌==◌ key.now row.0) rows.now }
 {
-    rows.iter().any(|row| *key == row.0)
+    for row in rows {
+        if *key == row.0 {
+            return true;
+        }
+    }
+    false
 }
 
 /// Puts each row in turn into entries.

@@ -1,6 +1,6 @@
 //! What is kept of nodes that are whole, and their names.
 
-ghost use Rattle.std.specs.Prelude.{◌≡◌, ◌==◌, ◌+◌, List, ℕ, [], OnOk};
+ghost use Rattle.std.specs.Prelude.{◌≡◌, ◌==◌, ◌+◌, ◌↔◌, List, ℕ, [], OnOk, IsTrue};
 ghost use Rattle.std.specs.Cmp.Lexicographic.{pointwise};
 ghost use Rattle.indexmap.specs.IndexMap.{insert_entry};
 ghost use Rattle.yaml_tree.specs.inside.Stack.{cut, one_node, unknown_node, no_row, with_part, with_repeat};
@@ -24,7 +24,7 @@ pub(crate) const MOST_LEVELS: u8 = 64;
 /// What the limits ask of a tree: its nodes and its levels, each counted to one more than a tree
 /// has at most; whether a key stands twice in one mapping; and whether an alias is of an unknown
 /// node.
-#[derive(Clone, Copy, PartialEq, Eq)]
+#[derive(Clone, Copy)]
 pub(crate) struct Measure {
     pub size: u32,
     pub levels: u8,
@@ -67,6 +67,13 @@ impl Measure {
             repeated: false,
             unknown: false,
         }
+    }
+
+    /// Whether it is that of a collection without rows.
+    pub fn is_no_row(self) -> bool
+        ensures { IsTrue result ↔ self ≡ no_row }
+    {
+        self.size == 1 && self.levels == 1 && !self.repeated && !self.unknown
     }
 
     /// The rows of a collection, and a value more.

@@ -71,7 +71,12 @@ fn is_name(token: &Token) -> bool
 fn are_names(tokens: &Tokens) -> bool
     ensures { result ≡ list_all is_name tokens.now }
 {
-    tokens.as_slice().iter().all(|token| is_name(token))
+    for token in tokens.as_slice() {
+        if !is_name(token) {
+            return false;
+        }
+    }
+    true
 }
 
 /// Reads a line, and tells where the next one stands, and whether it has no tokens but names.
@@ -161,7 +166,13 @@ fn line_feeds(text: &[u8]) -> usize
     ensures count { result ≡ count_by (λ b. b == line_feed) text.now }
     ensures most { result ≤ length text.now }
 {
-    text.iter().filter(|b| **b == b'\n').count()
+    let mut count = 0;
+    for b in text {
+        if *b == b'\n' {
+            count += 1;
+        }
+    }
+    count
 }
 
 /// The line of a byte.

@@ -83,7 +83,7 @@ impl Open {
         self.first_line == self.line
             && self.items.is_empty()
             && self.entries.is_empty()
-            && self.measure == Measure::no_row()
+            && self.measure.is_no_row()
     }
 
     /// Whether it is a sequence of a flow form, on one line and without a name.
