@@ -10,9 +10,16 @@ use std::alloc::{AllocError, Global};
 use std::marker::Model;
 
 /// A name in UTF-8, which contracts see as the list of its bytes.
-#[derive(Drop)]
 pub struct Name {
     name: String,
+}
+
+/// By hand: a derived one would be proved anew in each crate that drops such a value.
+impl Drop for Name {
+    fn drop(self) {
+        let Name { name } = self;
+        drop(name);
+    }
 }
 
 impl Model for Name {

@@ -13,7 +13,6 @@ use std::alloc::{AllocError, Global};
 use std::sync::Arc;
 
 /// The touched pages of an image, each once, with an index that finds them, and the bytes of a page of zeros.
-#[derive(Drop)]
 pub struct SharedPages {
     pub pages: Vec<Page>,
     pub zeros: Vec<u8>,
@@ -22,6 +21,20 @@ pub struct SharedPages {
     pub ghost are_zeros: { (o : ℕ) → o < page_size → slice_index zeros.items o ≡ 0 } by { Prim.hlevel props },
     ghost once: { StandOnce (page_numbers pages.items) } by { Prim.hlevel props },
     ghost indexed: { Finds index (page_numbers pages.items) } by { Prim.hlevel props },
+}
+
+/// By hand: a derived one would be proved anew in each crate that drops such a value.
+impl Drop for SharedPages {
+    fn drop(self) {
+        let SharedPages {
+            pages,
+            zeros,
+            index,
+        } = self;
+        drop(pages);
+        drop(zeros);
+        drop(index);
+    }
 }
 
 impl SharedPages {

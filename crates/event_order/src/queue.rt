@@ -20,7 +20,7 @@ pub struct Queue {
     rest: BTreeMap<Key, What>,
 }
 
-/// By hand, so that a crate that drops a queue need not prove anew how each of their parts is dropped.
+/// By hand: a derived one would be proved anew in each crate that drops such a value.
 impl Drop for Queue {
     fn drop(self) {
         let Queue { first, rest } = self;

@@ -16,12 +16,26 @@ pub struct Why {
 }
 
 /// A process: its descriptors, its epolls, its memory, and the call that it waits in.
-#[derive(Drop)]
 pub struct Task {
     pub table: Table,
     pub epolls: Epolls,
     pub memory: Mem,
     pub kept: Option<Why>,
+}
+
+/// By hand: a derived one would be proved anew in each crate that drops such a value.
+impl Drop for Task {
+    fn drop(self) {
+        let Task {
+            table,
+            epolls,
+            memory,
+            kept: _,
+        } = self;
+        drop(table);
+        drop(epolls);
+        drop(memory);
+    }
 }
 
 /// What a process wrote: descriptor 1 is its standard output, 2 its standard error.
@@ -34,9 +48,22 @@ pub struct Output {
 
 /// What the processes of a host share beside their sockets: open files, what they want to be done
 /// with the host's generator, and what they wrote.
-#[derive(Drop)]
 pub struct Shared {
     pub files: Files,
     pub outlet: Outlet,
     pub outputs: Outputs,
+}
+
+/// By hand: a derived one would be proved anew in each crate that drops such a value.
+impl Drop for Shared {
+    fn drop(self) {
+        let Shared {
+            files,
+            outlet,
+            outputs,
+        } = self;
+        drop(files);
+        drop(outlet);
+        drop(outputs);
+    }
 }

@@ -33,10 +33,14 @@ pub struct Mem {
     end: u32,
 }
 
-/// By hand, so that a crate that drops a memory need not prove anew how each of their parts is dropped.
+/// By hand: a derived one would be proved anew in each crate that drops such a value.
 impl Drop for Mem {
     fn drop(self) {
-        let Mem { table, start: _, end: _ } = self;
+        let Mem {
+            table,
+            start: _,
+            end: _,
+        } = self;
         drop(table);
     }
 }

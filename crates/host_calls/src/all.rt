@@ -11,10 +11,14 @@ pub struct Parts {
     pub sockets: Sockets,
 }
 
-/// By hand, so that a crate that drops a host's parts need not prove anew how each of their parts is dropped.
+/// By hand: a derived one would be proved anew in each crate that drops such a value.
 impl Drop for Parts {
     fn drop(self) {
-        let Parts { tasks, shared, sockets } = self;
+        let Parts {
+            tasks,
+            shared,
+            sockets,
+        } = self;
         drop(tasks);
         drop(shared);
         drop(sockets);

@@ -25,10 +25,16 @@ pub struct Files {
     alloc: Global,
 }
 
-/// By hand, so that a crate that drops files need not prove anew how each of their parts is dropped.
+/// By hand: a derived one would be proved anew in each crate that drops such a value.
 impl Drop for Files {
     fn drop(self) {
-        let Files { files, pipes, timers, eventfds, alloc: _ } = self;
+        let Files {
+            files,
+            pipes,
+            timers,
+            eventfds,
+            alloc: _,
+        } = self;
         drop(files);
         drop(pipes);
         drop(timers);

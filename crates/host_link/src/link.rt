@@ -29,10 +29,18 @@ pub struct Link {
     lines: Vec<Line>,
 }
 
-/// By hand, so that a crate that drops a link need not prove anew how each of their parts is dropped.
+/// By hand: a derived one would be proved anew in each crate that drops such a value.
 impl Drop for Link {
     fn drop(self) {
-        let Link { number: _, time: _, next: _, up, down, made, lines } = self;
+        let Link {
+            number: _,
+            time: _,
+            next: _,
+            up,
+            down,
+            made,
+            lines,
+        } = self;
         drop(up);
         drop(down);
         drop(made);

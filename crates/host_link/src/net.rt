@@ -100,10 +100,18 @@ pub struct Net {
     pub images: Images,
 }
 
-/// By hand, so that a crate that drops a net need not prove anew how each of their parts is dropped.
+/// By hand: a derived one would be proved anew in each crate that drops such a value.
 impl Drop for Net {
     fn drop(self) {
-        let Net { routes, known, nodes, bootstrap_end: _, stop: _, budget: _, images } = self;
+        let Net {
+            routes,
+            known,
+            nodes,
+            bootstrap_end: _,
+            stop: _,
+            budget: _,
+            images,
+        } = self;
         drop(routes);
         drop(known);
         drop(nodes);

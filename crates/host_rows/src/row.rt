@@ -99,7 +99,6 @@ impl From<Vec<ProcessRow>> for ProcessRows {
 }
 
 /// A host.
-#[derive(Drop)]
 pub struct Row {
     pub host: HostId,
     pub name: Name,
@@ -115,4 +114,23 @@ pub struct Row {
     /// The most bytes of a packet in its captures, where it has them.
     pub capture: Option<u32>,
     pub processes: ProcessRows,
+}
+
+/// By hand: a derived one would be proved anew in each crate that drops such a value.
+impl Drop for Row {
+    fn drop(self) {
+        let Row {
+            host: _,
+            name,
+            address: _,
+            bandwidth_up: _,
+            bandwidth_down: _,
+            router_queue: _,
+            seed: _,
+            capture: _,
+            processes,
+        } = self;
+        drop(name);
+        drop(processes);
+    }
 }

@@ -27,10 +27,19 @@ pub struct Sockets {
     ghost indexed: { Indexes index tcp.items } by { Prim.hlevel props },
 }
 
-/// By hand, so that a crate that drops sockets need not prove anew how each of their parts is dropped.
+/// By hand: a derived one would be proved anew in each crate that drops such a value.
 impl Drop for Sockets {
     fn drop(self) {
-        let Sockets { own: _, udp, tcp, udp_risen, tcp_risen, gone, made: _, index } = self;
+        let Sockets {
+            own: _,
+            udp,
+            tcp,
+            udp_risen,
+            tcp_risen,
+            gone,
+            made: _,
+            index,
+        } = self;
         drop(udp);
         drop(tcp);
         drop(udp_risen);

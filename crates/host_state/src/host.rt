@@ -31,7 +31,7 @@ pub struct Host {
     pub(crate) queue: Queue,
 }
 
-/// By hand, so that a crate that drops hosts need not prove anew how each of their parts is dropped.
+/// By hand: a derived one would be proved anew in each crate that drops such a value.
 impl Drop for Host {
     fn drop(self) {
         let Host { body, queue } = self;

@@ -14,9 +14,16 @@ use std::marker::Model;
 
 /// The costs of the routes from a node to each of the nodes of hosts, in the order of their ids,
 /// where there are such.
-#[derive(Drop)]
 pub struct RouteRow {
     costs: Vec<Kept>,
+}
+
+/// By hand: a derived one would be proved anew in each crate that drops such a value.
+impl Drop for RouteRow {
+    fn drop(self) {
+        let RouteRow { costs } = self;
+        drop(costs);
+    }
 }
 
 impl Model for RouteRow {

@@ -27,9 +27,16 @@ pub struct HostListing {
 }
 
 /// The hosts of a run in their order. So that no round has to look for it, whether any of them captures stands beside them.
-#[derive(Drop)]
 pub struct Listing {
     pub hosts: Vec<HostListing>,
     pub captures: bool,
     ghost told: { captures ≡ list_any (λ host. is_there host.capture) hosts.items } by { Prim.hlevel props },
+}
+
+/// By hand: a derived one would be proved anew in each crate that drops such a value.
+impl Drop for Listing {
+    fn drop(self) {
+        let Listing { hosts, captures: _ } = self;
+        drop(hosts);
+    }
 }

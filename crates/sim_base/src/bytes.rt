@@ -10,9 +10,16 @@ use std::alloc::{AllocError, Global};
 use std::marker::Model;
 
 /// A list of bytes, which contracts see as a list of numbers.
-#[derive(Drop)]
 pub struct Bytes {
     items: Vec<u8>,
+}
+
+/// By hand: a derived one would be proved anew in each crate that drops such a value.
+impl Drop for Bytes {
+    fn drop(self) {
+        let Bytes { items } = self;
+        drop(items);
+    }
 }
 
 impl Model for Bytes {

@@ -31,12 +31,25 @@ fn queue_limit(backlog: i32) -> usize
 /// A listener. It keeps the connections that weren't accepted, in the order of their SYNs, and the
 /// accept queue: the places of those that became ESTABLISHED, in this order. The others are the SYN
 /// queue. After a call that answers want of memory nothing is known of it.
-#[derive(Drop)]
 pub struct Listener {
     pub(crate) local: Addr,
     pub(crate) limit: usize,
     pub(crate) records: Vec<Conn>,
     pub(crate) accept_queue: Vec<usize>,
+}
+
+/// By hand: a derived one would be proved anew in each crate that drops such a value.
+impl Drop for Listener {
+    fn drop(self) {
+        let Listener {
+            local: _,
+            limit: _,
+            records,
+            accept_queue,
+        } = self;
+        drop(records);
+        drop(accept_queue);
+    }
 }
 
 impl Listener {

@@ -22,11 +22,22 @@ const WAITING: usize = 64;
 ///
 /// Contracts see what it is bound to, what it is connected to, and the datagrams that wait in it,
 /// the oldest first.
-#[derive(Drop)]
 pub struct UdpSock {
     local: Option<Addr>,
     peer: Option<Addr>,
     waiting: VecDeque<Datagram>,
+}
+
+/// By hand: a derived one would be proved anew in each crate that drops such a value.
+impl Drop for UdpSock {
+    fn drop(self) {
+        let UdpSock {
+            local: _,
+            peer: _,
+            waiting,
+        } = self;
+        drop(waiting);
+    }
 }
 
 impl Model for UdpSock {

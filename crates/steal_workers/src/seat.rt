@@ -24,7 +24,7 @@ pub struct Seat<T> {
     tasks: Snapshot<Vec<T>>,
 }
 
-/// By hand, so that a crate that drops seats need not prove anew how each of their parts is dropped.
+/// By hand: a derived one would be proved anew in each crate that drops such a value.
 impl<T: Drop> Drop for Seat<T> {
     fn drop(self) {
         let Seat {

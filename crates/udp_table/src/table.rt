@@ -19,10 +19,18 @@ use std::marker::Model;
 ///
 /// Contracts see the list. Where memory for the index is wanting it is given up, and each socket is
 /// looked at from then on.
-#[derive(Drop)]
 pub struct UdpTable {
     places: Vec<Option<UdpEnds>>,
     index: Option<Index>,
+}
+
+/// By hand: a derived one would be proved anew in each crate that drops such a value.
+impl Drop for UdpTable {
+    fn drop(self) {
+        let UdpTable { places, index } = self;
+        drop(places);
+        drop(index);
+    }
 }
 
 impl Model for UdpTable {

@@ -27,7 +27,7 @@ pub struct World {
     pub(crate) load: Load,
 }
 
-/// By hand, so that a crate that drops a world need not prove anew how each of its parts is dropped.
+/// By hand: a derived one would be proved anew in each crate that drops such a value.
 impl Drop for World {
     fn drop(self) {
         let World {

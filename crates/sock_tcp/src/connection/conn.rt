@@ -15,7 +15,6 @@ pub(crate) const BUFFER_SIZE: usize = 65_535;
 /// acknowledgements came since more was acknowledged, at most 255, and what was the highest when a loss
 /// was last noticed, how much it carried, what it sends and wasn't acknowledged yet, and what it received
 /// and wasn't read yet. After a call that answers want of memory nothing is known of it.
-#[derive(Drop)]
 pub struct Conn {
     pub(crate) control: Control,
     pub(crate) una: u32,
@@ -33,4 +32,24 @@ pub struct Conn {
     ghost receive_fits: { length receive.items ≤ buffer_size },
     ghost next_in: { sent ≤ length send.items + 2 },
     ghost highest_in: { highest ≤ length send.items + 2 },
+}
+
+/// By hand: a derived one would be proved anew in each crate that drops such a value.
+impl Drop for Conn {
+    fn drop(self) {
+        let Conn {
+            control: _,
+            una: _,
+            sent: _,
+            highest: _,
+            duplicates: _,
+            recover: _,
+            rcv: _,
+            counts: _,
+            send,
+            receive,
+        } = self;
+        drop(send);
+        drop(receive);
+    }
 }
