@@ -8,8 +8,8 @@ use std::fs;
 use std::fs::{Files, OpenOptions};
 use std::io::{self, ErrorKind, Write};
 
-/// So many files are kept open.
-const MOST_OPEN: usize = 16;
+/// So many files are kept open at most.
+const MOST_OPEN: usize = 512;
 
 /// A file of the directory that is open.
 #[derive(Drop)]
@@ -26,7 +26,7 @@ pub struct DiskSink<'a, R: Files, O, E> {
     err: E,
     /// The directory that was begun, with a slash at its end.
     directory: String,
-    /// The files that were opened last, which grow round by round.
+    /// The files that were opened since all were closed last, in the order of their names: they grow round by round.
     kept: Vec<OpenFile<R::File>>,
     tally: Tally,
 }
@@ -72,28 +72,46 @@ impl<'a, R: Files + AllocGlobal, O: Write, E: Write> DiskSink<'a, R, O, E> {
         }
     }
 
-    /// The place of a file of the directory among those that are open. Where it isn't open it is opened, and the one that
-    /// was opened first is closed where they are too many.
+    /// Opens a file of the directory. Where the machine opens no more files, those that are open are closed first.
+    fn open_file(&mut self, name: &str) -> io::Result<R::File>
+        ensures tally { self.new.tally ≡ self.old.tally }
+    {
+        let directory = self.directory.as_str();
+        let path = format!(in self.files.alloc(); "{directory}{name}")?;
+        match self.open_below(path.as_str()) {
+            Err(_) if !self.kept.is_empty() => {
+                self.kept.clear();
+                self.open_below(path.as_str())
+            }
+            opened => opened,
+        }
+    }
+
+    /// Opens a file of the directory, and keeps it at a place among those that are open, or at their end; these are closed where
+    /// they are too many.
+    fn keep(&mut self, place: usize, name: &str) -> io::Result<usize>
+        ensures place { IfOk result (λ place. place < length self.new.kept.items) }
+        ensures tally { self.new.tally ≡ self.old.tally }
+    {
+        let file = self.open_file(name)?;
+        let name = String::from_str(self.files.alloc(), name)?;
+        if self.kept.len() >= MOST_OPEN {
+            self.kept.clear();
+        }
+        let place = place.min(self.kept.len());
+        self.kept.insert(place, OpenFile { name, file })?;
+        Ok(place)
+    }
+
+    /// The place of a file of the directory among those that are open. Where it isn't open it is opened.
     fn opened(&mut self, name: &str) -> io::Result<usize>
         ensures place { IfOk result (λ place. place < length self.new.kept.items) }
         ensures tally { self.new.tally ≡ self.old.tally }
     {
-        for (place, file) in self.kept.iter().enumerate() {
-            if file.name.as_str() == name {
-                return Ok(place);
-            }
+        match self.kept.binary_search_by(|file| file.name.as_str().cmp(name)) {
+            Ok(place) => Ok(place),
+            Err(place) => self.keep(place, name),
         }
-        let alloc: Global = self.files.alloc();
-        let directory = self.directory.as_str();
-        let path = format!(in alloc; "{directory}{name}")?;
-        let file = self.open_below(path.as_str())?;
-        let name = String::from_str(alloc, name)?;
-        if self.kept.len() >= MOST_OPEN {
-            let _closed = self.kept.remove(0);
-        }
-        let place = self.kept.len();
-        self.kept.push(OpenFile { name, file })?;
-        Ok(place)
     }
 
     /// Adds bytes to a file of the directory. Where there are none, the file is only made.
