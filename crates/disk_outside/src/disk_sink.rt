@@ -108,7 +108,10 @@ impl<'a, R: Files + AllocGlobal, O: Write, E: Write> DiskSink<'a, R, O, E> {
         ensures place { IfOk result (λ place. place < length self.new.kept.items) }
         ensures tally { self.new.tally ≡ self.old.tally }
     {
-        match self.kept.binary_search_by(|file| file.name.as_str().cmp(name)) {
+        match self
+            .kept
+            .binary_search_by(|file| file.name.as_str().cmp(name))
+        {
             Ok(place) => Ok(place),
             Err(place) => self.keep(place, name),
         }

@@ -12,7 +12,7 @@ use guest_process::{Process, not_started};
 use host_calls::Parts;
 use host_link::{Link, Net, Outbox, hand_made_on};
 use host_rows::Row;
-use sim_base::{Draws, Event, NoMemory, State, Time};
+use sim_base::{Event, NoMemory, Seeds, State, Time};
 
 /// A host without the events that it holds. Its work is about what it had to do so far, as a number of instructions: no clause
 /// speaks of it.
@@ -42,15 +42,15 @@ impl Drop for Host {
 
 impl Host {
     /// The host of a row at the beginning, which holds the events that start and shut down its
-    /// processes.
-    pub fn new(row: Row, net: &Net) -> Result<Host, NoMemory>
+    /// processes. Its generator is taken from these seeds, whichever host they were asked for last.
+    pub fn new(row: Row, net: &Net, seeds: &mut Seeds) -> Result<Host, NoMemory>
         requires { length row.processes ≤ most_processes }
         ensures { IfOk result (Begins row) }
     {
         let alloc = *net.nodes.allocator();
         let count = row.processes.as_slice().len();
         let processes = not_started(alloc, count)?;
-        let draws = Draws::for_host(row.seed, row.host.index);
+        let draws = seeds.draws(row.seed, row.host.index);
         let parts = Parts::new(alloc, row.address, draws, count)?;
         let mut link = Link::new(alloc, &row);
         let queue = link.begin(alloc, row.processes.as_slice())?;

@@ -12,7 +12,7 @@ use opened_run::{Opened, open};
 use round_lookahead::one_result;
 use round_schedule::Round;
 use run_plan::Run;
-use sim_base::{NoMemory, Time};
+use sim_base::{NoMemory, Seeds, Time};
 use std::alloc::Global;
 
 /// The hosts of rows, as each begins.
@@ -21,8 +21,9 @@ fn open_hosts(alloc: Global, rows: Vec<Row>, net: &Net) -> Result<Vec<Host>, NoM
     ensures { IfOk result (λ hosts. HostsStand net.now hosts.items (opening_world rows.items)) }
 {
     let mut hosts = Vec::new(alloc);
+    let mut seeds = Seeds::new(0);
     for row in rows {
-        hosts.push(Host::new(row, net)?)?;
+        hosts.push(Host::new(row, net, &mut seeds)?)?;
     }
     Ok(hosts)
 }

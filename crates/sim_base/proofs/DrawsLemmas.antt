@@ -1,13 +1,11 @@
 -- words of a generator, from one draw to the next
-use Rattle.std.proofs.Common.{◌≡◌, ℕ, suc, ◌+◌, ◌-◌, ◌<◌, ◌≤◌, List, ap, arith}
+use Rattle.std.proofs.Common.{◌≡◌, ℕ, suc, ◌+◌, List, ap, ◌∙◌, arith}
 use Rattle.sim_base.specs.Draws.{draw, word_of}
 
-pub word_of_more : (s : List ℕ) (n i : ℕ) → i < n → word_of s (n - i) ≡ word_of (draw s).1 (n - (i + 1))
-word_of_more s n i below = ap (word_of s) one_more where
-  one_more : n - i ≡ suc (n - (i + 1))
-  one_more = omega arith
+one_on : (at n : ℕ) → at + suc n ≡ at + 1 + n
+one_on at n = omega arith
 
-pub word_of_last : (s : List ℕ) (n i : ℕ) → n ≤ i → word_of s (n - i) ≡ (draw s).0
-word_of_last s n i past = ap (word_of s) none_left where
-  none_left : n - i ≡ 0
-  none_left = omega arith
+-- the words of a state are those of another one from a place on, and so are those of the state after it
+pub told_on : (start words more : List ℕ) (at word : ℕ) → (word, more) ≡ draw words → ((n : ℕ) → word_of words n ≡ word_of start (at + n))
+    → (n : ℕ) → word_of more n ≡ word_of start (at + 1 + n)
+told_on start words more at word drawn told n = ap (λ (p : ℕ × List ℕ). word_of p.1 n) drawn ∙ told (suc n) ∙ ap (word_of start) (one_on at n)

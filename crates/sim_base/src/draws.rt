@@ -1,7 +1,8 @@
 //! The random words that a host draws.
 
-ghost use Rattle.std.specs.Prelude.{◌≡◌};
-ghost use Rattle.sim_base.specs.Draws.{draw, host_generator};
+ghost use Rattle.std.proofs.Props.{props};
+ghost use Rattle.std.specs.Prelude.{◌≡◌, ◌+◌, ◌≤◌, ℕ};
+ghost use Rattle.sim_base.specs.Draws.{draw, host_generator, seeded, word_of};
 
 use rand_core::SeedableRng;
 use rand_core::utils::NextWord;
@@ -30,13 +31,7 @@ impl Draws {
     pub fn for_host(seed: u32, index: u32) -> Draws
         ensures { result ≡ host_generator seed index }
     {
-        let mut seeds = Xoshiro256PlusPlus::seed_from_u64(u64::from(seed));
-        for _i in 0..index {
-            let _ = seeds.next_word();
-        }
-        Draws {
-            generator: Xoshiro256PlusPlus::seed_from_u64(seeds.next_word()),
-        }
+        Seeds::new(seed).draws(seed, index)
     }
 
     /// Draws the next word.
@@ -44,5 +39,62 @@ impl Draws {
         ensures { (result, self.new) ≡ draw self.old }
     {
         self.generator.next_word()
+    }
+}
+
+/// What the generators of hosts are seeded by. Where hosts of one experiment are asked for in the order of their numbers, each
+/// takes one word more, and not all those before its own.
+#[derive(Drop)]
+pub struct Seeds {
+    seed: u32,
+    at: u64,
+    words: Xoshiro256PlusPlus,
+    ghost told: { (n : ℕ) → word_of words n ≡ word_of (seeded seed) (at + n) } by { Prim.hlevel props },
+}
+
+impl Seeds {
+    /// Those of an experiment with this seed, from its first host on.
+    pub fn new(seed: u32) -> Seeds
+        ensures { (result.seed ≡ seed) × (result.at ≡ 0) }
+    {
+        Seeds {
+            seed,
+            at: 0,
+            words: Xoshiro256PlusPlus::seed_from_u64(u64::from(seed)),
+        }
+    }
+
+    /// Begins anew where it is past the host with this number, or in another experiment.
+    fn turn_to(&mut self, seed: u32, index: u64)
+        ensures { (self.new.seed ≡ seed) × (self.new.at ≤ index) }
+    {
+        if seed != self.seed || index < self.at {
+            *self = Seeds::new(seed);
+        }
+    }
+
+    /// Goes on to the host with this number.
+    fn go_to(&mut self, index: u64)
+        requires { self.old.at ≤ index }
+        ensures { (self.new.seed ≡ self.old.seed) × (self.new.at ≡ index) }
+    {
+        for _host in self.at..index {
+            let _ = self.words.next_word();
+            self.at += 1;
+        }
+    }
+
+    /// The generator of the host with this number, in an experiment with this seed.
+    pub fn draws(&mut self, seed: u32, index: u32) -> Draws
+        ensures { result ≡ host_generator seed index }
+    {
+        let index = u64::from(index);
+        self.turn_to(seed, index);
+        self.go_to(index);
+        let word = self.words.next_word();
+        self.at += 1;
+        Draws {
+            generator: Xoshiro256PlusPlus::seed_from_u64(word),
+        }
     }
 }

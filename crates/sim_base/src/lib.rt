@@ -30,7 +30,7 @@ pub use alarm::AlarmTarget;
 pub use around::Around;
 pub use book::Book;
 pub use bytes::Bytes;
-pub use draws::Draws;
+pub use draws::{Draws, Seeds};
 pub use ends::{source_ip, stays_inside};
 pub use errno::Errno;
 pub use event::{Event, Parcel, What};

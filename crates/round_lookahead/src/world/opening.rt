@@ -15,16 +15,16 @@ use host_link::Net;
 use host_rows::Row;
 use host_state::Host;
 use run_files::Listing;
-use sim_base::{NoMemory, Time};
+use sim_base::{NoMemory, Seeds, Time};
 use std::alloc::Global;
 
 /// The host of a row at the beginning.
-fn open_host(alloc: Global, row: Row, net: &Net) -> Result<HostTask, NoMemory>
+fn open_host(alloc: Global, row: Row, net: &Net, seeds: &mut Seeds) -> Result<HostTask, NoMemory>
     requires { FitsNet net.now row }
     ensures { IfOk result (IsOpened row) }
 {
     let id = row.host;
-    let host = Box::new(alloc, Host::new(row, net)?)?;
+    let host = Box::new(alloc, Host::new(row, net, seeds)?)?;
     Ok(HostTask::new(id, host, Vec::new(alloc)))
 }
 
@@ -34,8 +34,9 @@ fn open_hosts(alloc: Global, rows: Vec<Row>, net: &Net) -> Result<Vec<HostTask>,
     ensures { IfOk result (λ tasks. AreOpened rows.items tasks.items) }
 {
     let mut tasks = Vec::with_capacity(alloc, rows.len())?;
+    let mut seeds = Seeds::new(0);
     for row in rows {
-        tasks.push(open_host(alloc, row, net)?)?;
+        tasks.push(open_host(alloc, row, net, &mut seeds)?)?;
     }
     Ok(tasks)
 }

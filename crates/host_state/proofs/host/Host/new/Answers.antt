@@ -17,10 +17,10 @@ returns c =
     let grown : begins_all 0 c.as_slice.result.now c.new-link.result ≡ whole =
     ap (λ (rs : List ProcessRow). begins_all 0 rs c.new-link.result) c.as_slice.ensures ∙ ap (begins_all 0 rows) c.new-link.ensures in
     let count : length c.as_slice-count.result.now ≡ length rows = ap length c.as_slice-count.ensures in
-    let counted : PartsStand c.in_ok-parts.parts (no_parts c.args.row.address c.for_host-draws.result (length rows)) =
-    subst (λ (n : ℕ). PartsStand c.in_ok-parts.parts (no_parts c.args.row.address c.for_host-draws.result n)) count c.in_ok-parts.ensures in
+    let counted : PartsStand c.in_ok-parts.parts (no_parts c.args.row.address c.draws-draws.result (length rows)) =
+    subst (λ (n : ℕ). PartsStand c.in_ok-parts.parts (no_parts c.args.row.address c.draws-draws.result n)) count c.in_ok-parts.ensures in
     let parts : PartsStand c.in_ok-parts.parts (no_parts c.args.row.address (host_generator c.args.row.seed c.args.row.host.index) (length rows)) =
-    subst (λ (g : List ℕ). PartsStand c.in_ok-parts.parts (no_parts c.args.row.address g (length rows))) c.for_host-draws.ensures counted in
+    subst (λ (g : List ℕ). PartsStand c.in_ok-parts.parts (no_parts c.args.row.address g (length rows))) c.draws-draws.ensures counted in
     record {
       host = record {
         body = record {
