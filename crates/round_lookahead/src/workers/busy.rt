@@ -21,7 +21,7 @@ impl HostTask {
 }
 
 /// How many tasks have something to do before the end.
-fn busy_count(tasks: &[HostTask], end: Time) -> usize
+pub(crate) fn busy_count(tasks: &[HostTask], end: Time) -> usize
     ensures { result ≡ count_by (is_busy end.nanos) tasks.now }
 {
     let mut busy = 0;
@@ -33,16 +33,14 @@ fn busy_count(tasks: &[HostTask], end: Time) -> usize
     busy
 }
 
-/// How many threads could run a round of so many workers: no more than there are hosts with something to do, and one at least.
-pub(crate) fn most_threads(tasks: &[HostTask], end: Time, workers: u32) -> u32
+/// How many threads could run a round of so many workers in which so many hosts have something to do: no more than there are such
+/// hosts, and one at least.
+pub(crate) fn most_threads(busy: usize, workers: u32) -> u32
     requires { 0 < workers }
-    ensures count { result ≡ most_threads end.nanos tasks.now workers }
+    ensures count { result ≡ most_threads busy workers }
     ensures within { (0 < result) × (result ≤ workers) }
 {
-    if workers < 2 {
-        return 1;
-    }
-    let busy = busy_count(tasks, end).max(1);
+    let busy = busy.max(1);
     if busy < workers as usize {
         busy as u32
     } else {

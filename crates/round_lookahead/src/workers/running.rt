@@ -66,4 +66,25 @@ impl HostTask {
         ran?;
         Ok(out)
     }
+
+    /// The same, but a host with nothing to do isn't looked at: it stays as it is, and hands out nothing.
+    pub(crate) fn run_if_busy(
+        &mut self,
+        alloc: Global,
+        net: &Net,
+        end: Time,
+    ) -> Result<Outbox, NoMemory>
+        requires stop { net.now.stop.nanos ≤ latest_time }
+        requires until { end.nanos ≤ net.now.stop.nanos }
+        requires task { (h : HostRecord) × IsTask net.now self.old.id.index self.old h }
+        ensures to { IfOk result (λ out. All (λ parcel. parcel.to.index < length net.now.known.book) out.parcels.items) }
+        ensures id { OnOk result (self.new.id ≡ self.old.id) }
+        ensures emptied { OnOk result (self.new.parcels.items ≡ []) }
+        ensures run { IfOk result (λ out. (h : HostRecord) → IsTask net.now self.old.id.index self.old h → HasRun net.now end.nanos self.old h (done_of self.new out) out.parcels.items) }
+    {
+        if self.is_busy(end) {
+            return self.run_here(alloc, net, end);
+        }
+        Ok(Outbox::new(alloc))
+    }
 }

@@ -62,7 +62,7 @@ fn work_one(
         parcels,
         lines,
         outputs,
-    } = task.run_here(alloc, net, end)?;
+    } = task.run_if_busy(alloc, net, end)?;
     let HostTask { id, host, .. } = task;
     shift.worked.done.push_reserved(Done {
         id,

@@ -10,7 +10,10 @@ use std::alloc::Global;
 const THREAD_WORTH: u64 = 300_000;
 
 /// The same for each host that is moved to a worker and back.
-const MOVE_WORTH: u64 = 2_500;
+const MOVE_WORTH: u64 = 300;
+
+/// And beside that for each that has something to do.
+const RUN_WORTH: u64 = 2_200;
 
 /// The mean of a round's numbers and those before it has so large a part of it: an eighth.
 const PART: u64 = 8;
@@ -77,9 +80,9 @@ impl Load {
         Load { beside: None }
     }
 
-    /// In how many threads a round of so many hosts is run that so many threads could run: as many as it is worth by what the last
-    /// rounds had to do, or all, where nothing is known of any.
-    pub(crate) fn threads(&self, most: u32, hosts: usize) -> u32
+    /// In how many threads a round of so many hosts, of which so many are busy, is run that so many threads could run: as many as it is
+    /// worth by what the last rounds had to do, or all, where nothing is known of any.
+    pub(crate) fn threads(&self, most: u32, hosts: usize, busy: usize) -> u32
         requires { 0 < most }
         ensures { (0 < result) × (result ≤ most) }
     {
@@ -87,7 +90,8 @@ impl Load {
             return most;
         };
         let moves = (hosts as u64).saturating_mul(MOVE_WORTH);
-        let worth = (beside.saturating_sub(moves) / THREAD_WORTH).max(1);
+        let runs = (busy as u64).saturating_mul(RUN_WORTH);
+        let worth = (beside.saturating_sub(moves.saturating_add(runs)) / THREAD_WORTH).max(1);
         if worth < u64::from(most) {
             worth as u32
         } else {

@@ -8,10 +8,24 @@ ghost use Rattle.world_order.specs.World as order;
 use host_link::Logged;
 use sim_base::NoMemory;
 
+/// From so many lines on their keys are put in order beside them, and each line is moved once.
+const MANY: usize = 64;
+
+/// Puts many lines in the order of their keys; those of one key stay in theirs.
+fn merge_many(lines: &mut Vec<Logged>) -> Result<(), NoMemory>
+    ensures { OnOk result ((all : List (order.Logged LineRecord)) → lines.old.items ≡ map kept_line all → lines.new.items ≡ map kept_line (in_order all)) }
+{
+    lines.sort_by_cached_key(|line| line.key)?;
+    Ok(())
+}
+
 /// Puts lines in the order of their keys; those of one key stay in theirs.
 pub(crate) fn merge(lines: &mut Vec<Logged>) -> Result<(), NoMemory>
     ensures { OnOk result ((all : List (order.Logged LineRecord)) → lines.old.items ≡ map kept_line all → lines.new.items ≡ map kept_line (in_order all)) }
 {
+    if lines.len() >= MANY {
+        return merge_many(lines);
+    }
     lines.sort_by_key(|line| line.key)?;
     Ok(())
 }

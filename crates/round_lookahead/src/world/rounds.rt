@@ -7,7 +7,7 @@ ghost use Rattle.round_lookahead.specs.inside.Gains.{HasGained};
 ghost use Rattle.round_lookahead.specs.Tasks.{waiting};
 ghost use Rattle.round_lookahead.specs.WorldStands.{HostWorld, WorldStands};
 
-use crate::workers::busy::most_threads;
+use crate::workers::busy::{busy_count, most_threads};
 use crate::workers::round::{RoundLeft, run_beside};
 use crate::world::due::least_due;
 use crate::world::gained::Gained;
@@ -49,11 +49,11 @@ impl World {
         ensures { (0 < result) × (result ≤ workers) }
     {
         let hosts = self.tasks.len();
-        if self.load.threads(workers, hosts) < 2 {
+        if workers < 2 || self.load.threads(workers, hosts, 0) < 2 {
             return 1;
         }
-        let most = most_threads(self.tasks.as_slice(), end, workers);
-        self.load.threads(most, hosts)
+        let busy = busy_count(self.tasks.as_slice(), end);
+        self.load.threads(most_threads(busy, workers), hosts, busy)
     }
 
     /// The round whose least event is due at `least`.

@@ -15,7 +15,7 @@ returns-clause-worked c = on_ok_weaker c.post_all.result
     let k = c.args.task.id.index in
     let run = c.in_ok-parcels.ensures.run (rec k) is in
     let job : HostJob = record { worker = c.args._worker; number = k; ran = run.ran } in
-    let done : Done = done_of c.run_here.new.self c.in_ok-parcels.field-0 in
+    let done : Done = done_of c.run_if_busy.new.self c.in_ok-parcels.field-0 in
     let all : parcels_made net (jobs ++ job ∷ []) ≡ parcels_made net jobs ++ c.in_ok-parcels.field-0.parcels.items =
     made_more net jobs job ∙ ap (λ (l : List Parcel). parcels_made net jobs ++ l) (sym run.made) in (
       job,
