@@ -1,8 +1,8 @@
 -- From what was found to routes.
 use Rattle.std.proofs.Common.{◌≡◌, ℕ, suc, ◌+◌, ◌-◌, ◌<◌, ◌≤◌, Bool, List, [], ◌∷◌, ◌++◌, length, get_or, map, take, drop, Option, Some, Ok, Err, Result, append-nil, refl, sym, ap, ◌∙◌, subst, ⊎_elim, arith}
-use Rattle.std.specs.Prelude.{All, Contains, IfOk, IfErr, ◌↔◌, slice_index_or}
+use Rattle.std.specs.Prelude.{All, Contains, IfOk, IfErr, ◌↔◌, slice_index, slice_index_or}
 use Rattle.std.specs.List.Sorted.{IsStrictlyIncreasing}
-use Rattle.std.proofs.lemmas.List.{get_or-map, get_or_append_left, get_or-append_right, get_or-take, get_or-drop, length-map, length-append, length-take, length-drop}
+use Rattle.std.proofs.lemmas.List.{get_or-map, get_or_append_left, get_or-append_right, get_or-take, get_or-drop, length-map, length-append, length-take, length-drop, map-append, take_more}
 use Rattle.std.proofs.lemmas.Bool.{cases_lt}
 use Rattle.std.proofs.Math.Seq.{get_or-append_seam}
 use Rattle.gml_graph.specs.declared.graph.Graph.{Graph}
@@ -11,7 +11,7 @@ use Rattle.net_routes.specs.declared.error.RouteError.{RouteError}
 use Rattle.net_routes.specs.declared.error.RouteError.TheVariants as errors
 use Rattle.net_routes.specs.declared.finding.Search.{Search}
 use Rattle.net_routes.specs.declared.adjacency.Adjacency.{Adjacency}
-use Rattle.net_routes.specs.inside.Found.{IsRowOrLack, IsFound, IsToSearch, AreSearched, IsStopped, rows_found, oks, most_at_once, AreFound, IsRefused}
+use Rattle.net_routes.specs.inside.Found.{IsRowOrLack, IsFound, IsTurnedAt, IsToSearch, AreSearched, IsStopped, rows_found, oks, most_at_once, AreFound, IsRefused}
 use Rattle.net_routes.specs.inside.RouteRows.{IsRouteRow, NamesLack}
 use Rattle.net_routes.specs.Needed.{IsAt, IsNeeded}
 use Rattle.net_routes.specs.inside.Adjacency.{IsAdjacency}
@@ -148,6 +148,17 @@ stopped found rows left rest s e is err parts =
     IsStopped.behind rows (rows_found rest)
     (ap (λ (r : Result (List (Option Cost)) RouteError). oks rows ++ r ∷ rows_found rest) (sym err)
     ∙ ap (λ (l : List Search). oks rows ++ rows_found l) (sym is) ∙ parts)
+
+-- searches are turned to nodes one by one
+pub turned_more : (old new : List Search) (stops : List ℕ) (i : ℕ) → map (λ (s : Search). s.from) (take i old) ≡ take i stops → IsTurnedAt i (slice_index stops i) old new → i < length stops
+    → map (λ (s : Search). s.from) (take (i + 1) new) ≡ take (i + 1) stops
+turned_more old new stops i so turned lt =
+    let d : Search = record { from = 0; row = Err errors.NoMemory } in
+    ap (map (λ (s : Search). s.from)) (take_more new i d turned.within)
+    ∙ map-append (λ (s : Search). s.from) (take i new) (get_or new i d ∷ [])
+    ∙ ap (λ (l : List ℕ). l ++ (get_or new i d).from ∷ []) (turned.before ∙ so)
+    ∙ ap (λ (n : ℕ). take i stops ++ n ∷ []) (turned.at d)
+    ∙ sym (take_more stops i 0 lt)
 
 -- each search is from a node of hosts
 part_all : (P : ℕ → Type 0) (stops : List ℕ) (n : ℕ) → All P stops → All P (take most_at_once (drop n stops))

@@ -1,7 +1,7 @@
 //! Finds the routes that hosts need.
 
-ghost use Rattle.std.specs.Prelude.{◌≡◌, ◌<◌, ◌++◌, All, Contains, IfOk, IfErr, OnOk, length, map, take, drop};
-ghost use Rattle.net_routes.specs.inside.Found.{most_at_once, IsReady, AreStops, IsToSearch, IsFound, IsSearched, AreSearched, oks, rows_found, IsStopped, AreFound, IsRefused};
+ghost use Rattle.std.specs.Prelude.{◌≡◌, ◌<◌, ◌≤◌, ◌++◌, All, Contains, IfOk, IfErr, OnOk, length, map, take, drop};
+ghost use Rattle.net_routes.specs.inside.Found.{most_at_once, IsReady, AreStops, IsTurnedAt, IsToSearch, IsFound, IsSearched, AreSearched, oks, rows_found, IsStopped, AreFound, IsRefused};
 ghost use Rattle.net_routes.specs.Routes.{HasRoutes, AreRoutes, AreSound, IsRefusal};
 ghost use Rattle.net_routes.specs.Table.{IsTable};
 
@@ -18,7 +18,7 @@ use std::alloc::Global;
 use std::thread::{Threads, for_each_mut};
 
 /// From so many nodes at most rows are found at once.
-const AT_ONCE: usize = 256;
+const AT_ONCE: usize = 64;
 
 /// A node, and the costs of the routes from it once they are found.
 #[derive(Drop)]
@@ -117,18 +117,32 @@ fn search_all<R: Threads + Sync>(
     );
 }
 
-/// The searches from these nodes before they begin.
-fn searches_from(alloc: Global, stops: &[u32]) -> Result<Vec<Search>, NoMemory>
-    ensures { IfOk result (λ v. map (λ s. s.from) v.items ≡ stops.now) }
+/// Turns the search at a place to a node, or takes one more for it behind the others.
+fn turn_one(searches: &mut Vec<Search>, place: usize, from: u32) -> Result<(), NoMemory>
+    requires { place ≤ length searches.old.items }
+    ensures { OnOk result (IsTurnedAt place from searches.old.items searches.new.items) }
 {
-    let mut searches = Vec::with_capacity(alloc, stops.len())?;
-    for from in stops {
-        searches.push(Search {
-            from: *from,
-            row: Err(RouteError::NoMemory),
-        })?;
+    if place < searches.len() {
+        searches[place].from = from;
+        return Ok(());
     }
-    Ok(searches)
+    searches.push(Search {
+        from,
+        row: Err(RouteError::NoMemory),
+    })?;
+    Ok(())
+}
+
+/// Turns searches to these nodes, and takes more of them where they are too few. What they found before stays until they find more, so
+/// that its memory is used again.
+fn turn_to(searches: &mut Vec<Search>, stops: &[u32]) -> Result<(), NoMemory>
+    ensures { OnOk result (map (λ s. s.from) searches.new.items ≡ stops.now) }
+{
+    searches.truncate(stops.len());
+    for place in 0..stops.len() {
+        turn_one(searches, place, stops[place])?;
+    }
+    Ok(())
 }
 
 /// The next of the nodes behind so many.
@@ -143,12 +157,15 @@ fn next_stops(stops: &[u32], before: usize) -> &[u32]
 }
 
 /// Adds the rows that were found, up to the first error.
-fn add_found(alloc: Global, searches: Vec<Search>, rows: &mut RouteRows) -> Result<(), RouteError>
-    ensures ok { OnOk result (oks rows.new ≡ oks rows.old ++ rows_found searches.items) }
-    ensures err { IfErr result (IsStopped (oks rows.old ++ rows_found searches.items)) }
+fn add_found(alloc: Global, searches: &[Search], rows: &mut RouteRows) -> Result<(), RouteError>
+    ensures ok { OnOk result (oks rows.new ≡ oks rows.old ++ rows_found searches.now) }
+    ensures err { IfErr result (IsStopped (oks rows.old ++ rows_found searches.now)) }
 {
     for each in searches {
-        rows.push(alloc, each.row?)?;
+        match &each.row {
+            Ok(row) => rows.push(alloc, row)?,
+            Err(error) => return Err(*error),
+        }
     }
     Ok(())
 }
@@ -163,6 +180,7 @@ fn find_next<R: Threads + Sync>(
     stops: &[u32],
     shortest: bool,
     workers: u32,
+    searches: &mut Vec<Search>,
     rows: &mut RouteRows,
 ) -> Result<(), RouteError>
     requires adjacency { IsReady adjacency.now }
@@ -174,18 +192,11 @@ fn find_next<R: Threads + Sync>(
     ensures more { OnOk result (length rows.old < length rows.new) }
     ensures err { IfErr result (IsRefused adjacency.now nodes.now stops.now shortest) }
 {
-    let mut searches = searches_from(alloc, next_stops(stops, rows.len()))?;
+    turn_to(searches, next_stops(stops, rows.len()))?;
     search_all(
-        rt,
-        alloc,
-        adjacency,
-        nodes,
-        stops,
-        shortest,
-        workers,
-        &mut searches,
+        rt, alloc, adjacency, nodes, stops, shortest, workers, searches,
     );
-    add_found(alloc, searches, rows)
+    add_found(alloc, searches.as_slice(), rows)
 }
 
 /// Finds the rows from all nodes of hosts.
@@ -207,9 +218,18 @@ fn find_rows<R: Threads + Sync>(
     ensures err { IfErr result (IsRefused adjacency.now nodes.now stops.now shortest) }
 {
     let mut rows = RouteRows::new(alloc);
+    let mut searches = Vec::new(alloc);
     while rows.len() < stops.len() {
         find_next(
-            rt, alloc, adjacency, nodes, stops, shortest, workers, &mut rows,
+            rt,
+            alloc,
+            adjacency,
+            nodes,
+            stops,
+            shortest,
+            workers,
+            &mut searches,
+            &mut rows,
         )?;
     }
     rows.shrink(alloc);

@@ -86,13 +86,17 @@ impl NumberedCosts {
         }
     }
 
-    /// The number of a cost, where it is the one behind another number, or that one itself.
+    /// The number of a cost, where it is the one behind another number, the one before it, or that one itself.
     fn number_near(&self, near: u16, cost: Option<Cost>) -> Option<u16>
         ensures { IfSome result (λ n. slice_get self.now n ≡ Some cost) }
     {
         let next = near.wrapping_add(1);
         if self.is_under(next, cost) {
             return Some(next);
+        }
+        let before = near.wrapping_sub(1);
+        if self.is_under(before, cost) {
+            return Some(before);
         }
         if self.is_under(near, cost) {
             return Some(near);

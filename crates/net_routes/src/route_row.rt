@@ -9,6 +9,7 @@ use crate::adjacency::Adjacency;
 use crate::cost::Cost;
 use crate::error::RouteError;
 use crate::kept::Kept;
+use sim_base::NoMemory;
 use std::alloc::Global;
 use std::marker::Model;
 
@@ -51,6 +52,17 @@ impl RouteRow {
         } else {
             None
         }
+    }
+
+    /// The same costs again.
+    pub fn copy(&self, alloc: Global) -> Result<RouteRow, NoMemory>
+        ensures { IfOk result (λ row. row ≡ self.now) }
+    {
+        let mut costs = Vec::with_capacity(alloc, self.costs.len())?;
+        for kept in self.costs.as_slice() {
+            costs.push(Kept::from(kept.get()))?;
+        }
+        Ok(RouteRow { costs })
     }
 }
 

@@ -34,16 +34,16 @@ impl Model for RouteRows {
 }
 
 /// A row as it is kept.
-fn keep_row(alloc: Global, costs: &mut NumberedCosts, row: RouteRow) -> Result<KeptRow, NoMemory>
-    ensures row { IfOk result (λ kept. row_in costs.new kept ≡ row) }
+fn keep_row(alloc: Global, costs: &mut NumberedCosts, row: &RouteRow) -> Result<KeptRow, NoMemory>
+    ensures row { IfOk result (λ kept. row_in costs.new kept ≡ row.now) }
     ensures costs { IfOk result (HasCosts costs.new) }
     ensures kept { KeepNumbers costs.old costs.new }
-    ensures added { GetNumbers row costs.old costs.new }
+    ensures added { GetNumbers row.now costs.old costs.new }
     ensures numbered { IfOk result (λ kept. HasNumbers kept ⊎ (2 ^ 16 ≤ length costs.new)) }
 {
-    match costs.numbers_of(alloc, &row)? {
+    match costs.numbers_of(alloc, row)? {
         Some(numbers) => Ok(KeptRow::Numbers(numbers)),
-        None => Ok(KeptRow::Costs(row)),
+        None => Ok(KeptRow::Costs(row.copy(alloc)?)),
     }
 }
 
@@ -64,8 +64,8 @@ impl RouteRows {
     }
 
     /// Adds the row of the next node.
-    pub fn push(&mut self, alloc: Global, row: RouteRow) -> Result<(), NoMemory>
-        ensures { OnOk result (self.new ≡ self.old ++ row ∷ []) }
+    pub fn push(&mut self, alloc: Global, row: &RouteRow) -> Result<(), NoMemory>
+        ensures { OnOk result (self.new ≡ self.old ++ row.now ∷ []) }
     {
         let kept = keep_row(alloc, &mut self.costs, row)?;
         self.rows.push(kept)?;

@@ -1,5 +1,5 @@
 -- What was found of the routes from the nodes of hosts.
-use Rattle.std.specs.Prelude.{◌≡◌, ℕ, ◌^◌, ◌<◌, ◌≤◌, Bool, List, length, Option, Result, Err, IfOk, IfErr, ◌⊎◌, slice_index_or, Contains, All, Ok, map, ◌++◌, ◌∷◌}
+use Rattle.std.specs.Prelude.{◌≡◌, ℕ, ◌^◌, ◌<◌, ◌≤◌, Bool, List, length, Option, Result, Err, IfOk, IfErr, ◌⊎◌, slice_index_or, Contains, All, Ok, map, take, max, ◌+◌, ◌++◌, ◌∷◌}
 use Rattle.net_routes.specs.declared.cost.Cost.{Cost}
 use Rattle.net_routes.specs.declared.error.RouteError.{RouteError}
 use Rattle.net_routes.specs.declared.error.RouteError.TheVariants as errors
@@ -41,6 +41,13 @@ pub record AreStops (nodes stops : List ℕ) : Type 0 where
 pub record IsToSearch (nodes : List ℕ) (s : Search) : Type 0 where
   pub from : Contains nodes s.from
 
+-- the search at a place is from this node, and those before it are from the nodes that they were from
+pub record IsTurnedAt (place from : ℕ) (old new : List Search) : Type 0 where
+  pub before : map (λ (s : Search). s.from) (take place new) ≡ map (λ (s : Search). s.from) (take place old)
+  pub at : (s : Search) → (slice_index_or new place s).from ≡ from
+  pub within : place < length new
+  pub most : length new ≤ max (length old) (place + 1)
+
 -- a search that was made
 pub record IsSearched (adjacency : Adjacency) (nodes stops : List ℕ) (shortest : Bool) (old new : Search) : Type 0 where
   pub from : new.from ≡ old.from
@@ -66,7 +73,7 @@ pub data IsStopped (found : List (Result (List (Option Cost)) RouteError)) (e : 
 
 -- from so many nodes at most rows are found at once
 abbrev pub most_at_once : ℕ
-most_at_once = 256
+most_at_once = 64
 
 -- what was found from the first nodes, node by node
 pub record AreFound (adjacency : Adjacency) (nodes stops : List ℕ) (shortest : Bool) (found : List (Result (List (Option Cost)) RouteError)) : Type 0 where

@@ -11,4 +11,4 @@ pub invariant_of-self-2 : goal.invariant_of-self-2
 invariant_of-self-2 c = rw c.in_ok-push.ensures.items (all_push _ _ c.self.inside.rows.items _ c.keep_row.ensures.kept c.self.invariant c.in_ok-kept.ensures.costs)
 
 pub returns : goal.returns
-returns c = rw (c.in_ok-push.ensures.items, ← c.self.view_is) (rows_push _ _ c.self.inside.rows.items _ c.args.row c.keep_row.ensures.kept c.self.invariant c.in_ok-kept.ensures.row)
+returns c = rw (c.in_ok-push.ensures.items, ← c.self.view_is) (rows_push _ _ c.self.inside.rows.items _ c.args.row.now c.keep_row.ensures.kept c.self.invariant c.in_ok-kept.ensures.row)
