@@ -9,7 +9,6 @@ use Rattle.host_sockets.specs.declared.sockets.Sockets.{Sockets}
 pub use Rattle.host_sockets.specs.SocketsStand.{ConnStands, ListenerStands, SocketStands, AllStand}
 use Rattle.host_wants.specs.Wanted.{Wanted}
 use Rattle.host_sockets.specs.Sockets.{SocketsRecord}
-use Rattle.host_sockets.specs.TcpActs.{Acted}
 
 pub record Stand (c : Sockets) (t : SocketsRecord) : Type 0 where
   pub own : c.own ≡ t.own

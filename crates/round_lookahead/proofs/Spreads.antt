@@ -1,5 +1,5 @@
 -- Where the parcels of a round are: each that was made lies in a row or in a spill, and no others do.
-use Rattle.std.proofs.Common.{◌≡◌, ◌⊎◌, inl, inr, ⊎_elim, ℕ, zero, suc, ◌<◌, ◌≤◌, true, List, [], ◌∷◌, ◌++◌, All, Some, Contains, map, length, get_or, nat_le, refl, sym, ap, subst, arith, lt_of_not-le, Vec}
+use Rattle.std.proofs.Common.{◌≡◌, ◌⊎◌, inl, inr, ⊎_elim, ℕ, zero, suc, ◌<◌, List, [], ◌∷◌, ◌++◌, All, Some, Contains, map, length, get_or, nat_le, refl, sym, ap, subst, arith, lt_of_not-le, Vec}
 use Rattle.std.specs.List.{flat_map, slice_get}
 use mathlib.Core.Logic.{dite}
 use native.Mathlib.Decide.{dec_le}

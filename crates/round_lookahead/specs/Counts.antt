@@ -1,5 +1,5 @@
 -- What the lines of a packet log come to.
-use Rattle.std.specs.Prelude.{ℕ, ◌-◌, ◌^◌, List, Bool, min, count_by}
+use Rattle.std.specs.Prelude.{ℕ, List, Bool, min, count_by}
 use Rattle.sim_base.specs.Units.{max_u64}
 use Rattle.sim_base.specs.declared.act.Act.{Act}
 use Rattle.host_link.specs.declared.line.Line.{Line}

@@ -20,7 +20,7 @@ use std::alloc::Global;
 fn has_path(paths: &[Name], path: &Name) -> bool
     ensures { result ≡ has_path paths.now path.now }
 {
-    paths.iter().any(|known| *path == *known)
+    paths.contains(path)
 }
 
 /// Adds a path that isn't there yet.

@@ -1,6 +1,6 @@
 -- Each configuration keeps to its limits.
 use Rattle.std.specs.Prelude.{if◌then◌else◌}
-use Rattle.std.proofs.Common.{◌≡◌, ℕ, ◌+◌, ◌≤◌, ◌&&◌, Bool, true, false, List, [], ◌∷◌, length, map, All, Option, Some, None, IfSome, IfOk, Result, Ok, Err, unwrap_or, is_some, codes, suc, ◌-◌, refl, sym, ap, subst, ◌∙◌, arith, nat_le}
+use Rattle.std.proofs.Common.{◌≡◌, ℕ, ◌+◌, ◌≤◌, ◌&&◌, Bool, true, false, List, [], ◌∷◌, length, map, All, Option, Some, None, IfSome, IfOk, Result, Ok, Err, unwrap_or, is_some, codes, suc, refl, sym, ap, subst, ◌∙◌, arith, nat_le}
 use Rattle.std.proofs.lemmas.Bool.{leb-true}
 use Rattle.std.proofs.lemmas.List.Elements.{All-nil, All-map, All-weaker}
 use Rattle.sim_base.specs.Limits.{most_hosts, most_processes, most_text_bytes}
@@ -8,7 +8,6 @@ use Rattle.sim_base.specs.Units.{max_u32, latest_time}
 use Rattle.sim_base.specs.declared.time.Time.{Time}
 use Rattle.sim_base.proofs.RefusalLemmas.{then_has, then_all, weaker}
 use Rattle.yaml_tree.specs.Said.{Said}
-use Rattle.yaml_merge.specs.Merge.{merged}
 use Rattle.yaml_merge.specs.Plain.{line_of}
 use Rattle.yaml_merge.specs.declared.plain.Pair.{Pair}
 use Rattle.shd_config.specs.declared.fault.ConfigKind.TheVariants.{OutOfRange, BadValue}

@@ -1,12 +1,12 @@
 -- How the answers of calls follow from those of the calls in them.
-use Rattle.std.proofs.Common.{◌≡◌, ℕ, true, false, List, Option, Some, None, Result, Ok, Err, refl, sym, ap, subst, ◌∙◌}
+use Rattle.std.proofs.Common.{◌≡◌, true, false, Option, Some, None, Result, Ok, Err, refl, sym, ap, subst, ◌∙◌}
 use Rattle.sim_base.specs.Refusals.{◌>>=◌}
 use Rattle.yaml_merge.specs.Plain.{is_null}
 use Rattle.yaml_merge.specs.declared.plain.Pair.{Pair}
 use Rattle.shd_config.specs.declared.fault.ConfigFault.{ConfigFault}
 use Rattle.shd_config.specs.declared.fault.ConfigError.{ConfigError}
 use Rattle.shd_config.specs.declared.fault.ConfigError.TheVariants as errors
-use Rattle.shd_config.specs.Steps.{IsFault, IsBelow, Fails, Gives, GivesSeen, below, path_below, optional}
+use Rattle.shd_config.specs.Steps.{IsFault, IsBelow, Fails, Gives, below, path_below, optional}
 
 -- an error that is this fault is that of a definition that gives it
 pub fault_fails : {A : Type 0} (e : ConfigError) (f : ConfigFault) (d : Result A ConfigFault) → IsFault e f → d ≡ Err f → Fails e d

@@ -14,10 +14,8 @@ use Rattle.shd_config.specs.declared.key.Key.TheVariants as keys
 use Rattle.shd_config.specs.declared.overrides.Overrides.{Overrides}
 use Rattle.shd_config.specs.declared.config.Config.{Config}
 use Rattle.shd_config.specs.declared.general.General.{General}
-use Rattle.shd_config.specs.declared.network.Network.{Network}
-use Rattle.shd_config.specs.declared.host.HostRead.{HostRead}
 use Rattle.shd_config.specs.declared.reading.RootDraft.{RootDraft}
-use Rattle.shd_config.specs.Steps.{refused, needed, below, through, given, optional, mapping_line}
+use Rattle.shd_config.specs.Steps.{refused, needed, through, given, optional, mapping_line}
 use Rattle.shd_config.specs.Keys.{key_of}
 use Rattle.shd_config.specs.Values.{mapping_at}
 use Rattle.shd_config.specs.General.{general_at, finished_general, new_general}

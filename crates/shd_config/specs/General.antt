@@ -1,7 +1,6 @@
 -- The key `general`.
-use Rattle.std.specs.Prelude.{ℕ, Bool, List, [], ◌∷◌, Option, Some, None, is_some, unwrap_or, Result, Ok, Err, codes, if◌then◌else◌}
+use Rattle.std.specs.Prelude.{ℕ, List, Option, Some, None, is_some, unwrap_or, Result, Ok, codes}
 use Rattle.sim_base.specs.Units.{max_u32}
-use Rattle.sim_base.specs.declared.time.Time.{Time}
 use Rattle.sim_base.specs.Refusals.{◌>>=◌}
 use Rattle.yaml_merge.specs.declared.plain.Pair.{Pair}
 use Rattle.shd_config.specs.declared.fault.ConfigKind.TheVariants.{UnknownKey}

@@ -1,8 +1,7 @@
 -- The keys `hosts` and `host_option_defaults`.
-use Rattle.std.specs.Prelude.{ℕ, Bool, false, if◌then◌else◌, List, [], ◌∷◌, ◌++◌, length, map, Option, Some, None, unwrap_or, Result, Ok, Err, codes}
+use Rattle.std.specs.Prelude.{ℕ, false, List, [], ◌∷◌, ◌++◌, length, Option, Some, None, unwrap_or, Result, Ok, codes}
 use Rattle.sim_base.specs.Limits.{most_hosts}
 use Rattle.sim_base.specs.Units.{max_u32}
-use Rattle.sim_base.specs.declared.address.Ip.{Ip}
 use Rattle.shd_values.specs.Word.{is_name_of_host}
 use Rattle.sim_base.specs.Refusals.{◌>>=◌}
 use Rattle.yaml_merge.specs.declared.plain.Pair.{Pair}
@@ -11,7 +10,6 @@ use Rattle.shd_config.specs.declared.fault.ConfigFault.{ConfigFault}
 use Rattle.shd_config.specs.declared.key.Key.{Key}
 use Rattle.shd_config.specs.declared.key.Key.TheVariants as keys
 use Rattle.shd_config.specs.declared.config.HostConfig.{HostConfig}
-use Rattle.shd_config.specs.declared.config.ProcessConfig.{ProcessConfig}
 use Rattle.shd_config.specs.declared.options.HostOptions.{HostOptions}
 use Rattle.shd_config.specs.declared.host.HostDraft.{HostDraft}
 use Rattle.shd_config.specs.declared.host.HostRead.{HostRead}

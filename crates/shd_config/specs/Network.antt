@@ -1,5 +1,5 @@
 -- The key `network`.
-use Rattle.std.specs.Prelude.{ℕ, Bool, true, false, ◌||◌, not, if◌then◌else◌, List, [], ◌∷◌, Option, Some, None, is_some, unwrap_or, option_and_then, Result, Ok, Err, codes}
+use Rattle.std.specs.Prelude.{ℕ, Bool, true, false, ◌||◌, not, if◌then◌else◌, List, [], ◌∷◌, Option, Some, None, is_some, unwrap_or, option_and_then, Result, Ok, codes}
 use Rattle.std.specs.Str.{bytes_eq}
 use Rattle.sim_base.specs.Refusals.{◌>>=◌}
 use Rattle.yaml_merge.specs.Plain.{is_null, text_in}

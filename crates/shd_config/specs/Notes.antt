@@ -1,5 +1,5 @@
 -- The notes of a configuration: the paths of the keys that have no effect, in document order. An absent key has no note.
-use Rattle.std.specs.Prelude.{ℕ, Bool, true, false, ◌&&◌, not, if◌then◌else◌, List, [], ◌∷◌, ◌++◌, map, Option, Some, None, unwrap_or, codes}
+use Rattle.std.specs.Prelude.{ℕ, Bool, true, false, ◌&&◌, not, if◌then◌else◌, List, [], ◌∷◌, ◌++◌, Option, Some, unwrap_or, codes}
 use Rattle.std.specs.List.{flat_map}
 use Rattle.yaml_merge.specs.Plain.{is_null, pairs_in}
 use Rattle.yaml_merge.specs.declared.plain.Pair.{Pair}

@@ -1,11 +1,11 @@
 -- A process.
-use Rattle.std.specs.Prelude.{ℕ, ◌+◌, Bool, true, false, ◌||◌, not, if◌then◌else◌, nat_lt, nat_le, List, [], ◌∷◌, ◌++◌, length, sum_by, Option, Some, None, is_some, unwrap_or, option_and_then, Result, Ok, Err, codes}
+use Rattle.std.specs.Prelude.{ℕ, ◌+◌, Bool, true, ◌||◌, not, if◌then◌else◌, nat_lt, nat_le, List, [], ◌∷◌, ◌++◌, length, sum_by, Option, Some, None, is_some, unwrap_or, option_and_then, Result, Ok, codes}
 use Rattle.std.specs.Str.{bytes_eq}
 use Rattle.sim_base.specs.Limits.{most_text_bytes, most_processes}
 use Rattle.sim_base.specs.declared.time.Time.{Time}
 use Rattle.sim_base.specs.declared.signal.Signal.{Signal}
 use Rattle.sim_base.specs.declared.signal.Signal.TheVariants.{SigTerm}
-use Rattle.shd_values.specs.Word.{signal_of, names_program}
+use Rattle.shd_values.specs.Word.{names_program}
 use Rattle.shd_values.specs.Words.{words_of}
 use Rattle.sim_base.specs.Refusals.{◌>>=◌}
 use Rattle.yaml_tree.specs.Said.{Said}
@@ -21,7 +21,7 @@ use Rattle.shd_config.specs.declared.config.Variable.{Variable}
 use Rattle.shd_config.specs.declared.config.ProcessConfig.{ProcessConfig}
 use Rattle.shd_config.specs.declared.state.StateDraft.{StateDraft}
 use Rattle.shd_config.specs.declared.process.ProcessDraft.{ProcessDraft}
-use Rattle.shd_config.specs.Steps.{refused, needed, valued, checked, below, through, optional, mapping_line, item}
+use Rattle.shd_config.specs.Steps.{refused, needed, checked, below, through, optional, mapping_line, item}
 use Rattle.shd_config.specs.Keys.{key_of}
 use Rattle.shd_config.specs.Values.{mapping_at, sequence_at, text_at, scalar_at, number_at, time_of, time_at, signal_at, ranged, text_with}
 use Rattle.shd_config.specs.Bounds.{greatest_status}

@@ -1,7 +1,6 @@
 -- The kinds of values.
-use Rattle.std.specs.Prelude.{◌≡◌, ℕ, ◌*◌, Bool, true, ◌&&◌, not, if◌then◌else◌, nat_lt, nat_le, List, [], ◌∷◌, ◌++◌, length, Option, Some, None, Result, Ok, Err, codes}
+use Rattle.std.specs.Prelude.{ℕ, Bool, ◌&&◌, not, if◌then◌else◌, nat_lt, nat_le, List, length, Option, Result, Ok}
 use Rattle.std.specs.Option.{option_map}
-use Rattle.std.specs.Str.{bytes_eq}
 use Rattle.base_texts.specs.Quantity.{time_of_text, rate_of_text}
 use Rattle.sim_base.specs.Units.{latest_time}
 use Rattle.sim_base.specs.declared.time.Time.{Time}

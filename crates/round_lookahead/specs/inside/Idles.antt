@@ -1,5 +1,5 @@
 -- A host with nothing to do in a round, and how many have something to do.
-use Rattle.std.specs.Prelude.{◌≡◌, ℕ, ◌≤◌, Bool, ◌||◌, nat_lt, List, [], length, All, min, max}
+use Rattle.std.specs.Prelude.{◌≡◌, ℕ, ◌≤◌, Bool, ◌||◌, nat_lt, [], length, All, min, max}
 use Rattle.sim_base.specs.declared.event.Event.{Event}
 use Rattle.world_order.specs.Steps.{has_due}
 use Rattle.round_lookahead.specs.declared.workers.host_task.HostTask.{HostTask}

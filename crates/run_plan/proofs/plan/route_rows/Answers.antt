@@ -2,7 +2,7 @@ use Rattle.std.proofs.Common.{◌∙◌, List, ℕ, subst}
 use Rattle.std.specs.Prelude.{Ok}
 use Rattle.net_routes.specs.Least.{IsLookahead}
 use Rattle.net_routes.specs.Routes.{HasRoutes}
-use Rattle.run_plan.specs.Plan.{nodes_of, routed, nanos_of}
+use Rattle.run_plan.specs.Plan.{routed, nanos_of}
 use Rattle.run_plan.specs.Routed.{TakeTime}
 use Rattle.run_plan.proofs.plan.route_rows.Goals as goal
 

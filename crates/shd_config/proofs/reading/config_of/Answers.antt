@@ -1,4 +1,4 @@
-use Rattle.std.proofs.Common.{Bool, All, IfOk, subst}
+use Rattle.std.proofs.Common.{Bool, All, subst}
 use Rattle.std.proofs.lemmas.Result.{err_from_is_err_and}
 use Rattle.sim_base.specs.Refusals.{◌>>=◌}
 use Rattle.sim_base.proofs.RefusalLemmas.{weaker}

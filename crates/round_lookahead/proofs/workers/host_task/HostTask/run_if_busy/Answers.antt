@@ -1,4 +1,4 @@
-use Rattle.std.proofs.Common.{[], List, sym, refl, subst}
+use Rattle.std.proofs.Common.{List, sym, refl, subst}
 use Rattle.sim_base.specs.declared.event.Parcel.{Parcel}
 use Rattle.round_lookahead.specs.inside.Works.{HasRun, done_of}
 use Rattle.round_lookahead.proofs.IdleSteps.{idle_run}

@@ -1,4 +1,4 @@
-use Rattle.std.proofs.Common.{◌≡◌, ◌∙◌, refl, ap, sym, length, arith, map, get_or, List}
+use Rattle.std.proofs.Common.{◌≡◌, ◌∙◌, ap, length, arith, get_or, List}
 use Rattle.round_lookahead.specs.declared.workers.host_task.HostTask.{HostTask}
 use Rattle.round_lookahead.proofs.StreamSteps.{kept_more, kept_all}
 use Rattle.round_lookahead.proofs.world.world_state.World.kept_streams.Goals as goal

@@ -1,4 +1,4 @@
-use Rattle.std.proofs.Common.{ℕ, ◌≤◌, ◌^◌, List, length, sym, subst}
+use Rattle.std.proofs.Common.{◌≤◌, ◌^◌, List, length, sym, subst}
 use Rattle.stream_pairs.specs.declared.kept.KeptStreams.{KeptStreams}
 use Rattle.round_lookahead.proofs.StreamSteps.{few_kept}
 use Rattle.round_lookahead.proofs.world.world_state.World.streams.Goals as goal
