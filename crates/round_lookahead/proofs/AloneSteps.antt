@@ -24,17 +24,17 @@ use Rattle.round_lookahead.specs.declared.workers.worked.Done.{Done}
 use Rattle.round_lookahead.specs.declared.workers.worked.Worked.{Worked}
 use Rattle.round_lookahead.specs.declared.world.in_place.Alone.{Alone}
 use Rattle.round_lookahead.specs.inside.Alone.{HasRunFirst, IsPlaced, HasKept, HasPassed, AreRunInPlace, held_by}
-use Rattle.round_lookahead.specs.inside.Arrivals.{Boxed}
+use Rattle.round_parts.specs.Arrivals.{Boxed}
 use Rattle.round_lookahead.specs.inside.Backs.{lists_of, lines_done}
-use Rattle.round_lookahead.specs.inside.Dues.{lesser_due}
+use Rattle.round_parts.specs.Dues.{lesser_due}
 use Rattle.round_lookahead.specs.inside.Idles.{IsIdle}
 use Rattle.round_lookahead.specs.inside.Rounds.{AreWorks, AreRows, IsRound, all_parcels}
 use Rattle.round_lookahead.specs.Tasks.{IsTask, AreTasksOf}
 use Rattle.round_lookahead.specs.Took.{host_of, hosts_below}
 use Rattle.round_lookahead.specs.Works.{HostJob, IsDone, AreDone, numbers, parcels_made}
 use Rattle.round_lookahead.specs.inside.Works.{HasRun, done_of}
-use Rattle.round_lookahead.proofs.BackSteps.{flat_append}
-use Rattle.round_lookahead.proofs.DueSteps.{least_more}
+use Rattle.round_parts.proofs.ListFacts.{flat_append}
+use Rattle.round_parts.proofs.DueSteps.{least_more}
 use Rattle.round_lookahead.proofs.IdleSteps.{idle_run, least_of}
 use Rattle.round_lookahead.proofs.WorkSteps.{done_more, made_more}
 

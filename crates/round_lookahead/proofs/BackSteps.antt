@@ -1,11 +1,12 @@
 -- Hosts come back, one after another.
-use Rattle.std.proofs.Common.{◌≡◌, ◌≢◌, ℕ, zero, suc, ◌<◌, inl, inr, List, [], ◌∷◌, ◌++◌, Option, Some, None, All, map, flat_map, length, get_or, replicate, slice_get, slice_set, refl, sym, ap, subst, ◌∙◌, arith, append_assoc, append-nil, length-set, Vec}
+use Rattle.std.proofs.Common.{◌≡◌, ◌≢◌, ℕ, ◌<◌, inl, inr, List, [], ◌∷◌, ◌++◌, Option, Some, None, All, map, length, replicate, slice_get, slice_set, refl, sym, ap, subst, ◌∙◌, arith, append_assoc, append-nil, length-set, Vec}
 use Rattle.std.specs.declared.alloc.Global.{Global}
 use Rattle.sim_base.specs.declared.event.Parcel.{Parcel}
 use Rattle.sim_base.specs.declared.host.HostId.{HostId}
 use Rattle.host_link.specs.declared.line.Logged.{Logged}
 use Rattle.world_order.proofs.Homes.{get_set_same, get_set_other, get_below}
-use Rattle.world_order.proofs.Members.{Each, Each_from_All, All_from_Each}
+use Rattle.world_order.proofs.Members.{Each}
+use Rattle.round_parts.proofs.ListFacts.{rest_of, flat_append}
 use Rattle.round_lookahead.specs.declared.workers.worked.Done.{Done}
 use Rattle.round_lookahead.specs.declared.workers.worked.Worked.{Worked}
 use Rattle.round_lookahead.specs.declared.world.backs.Back.{Back}
@@ -15,20 +16,9 @@ use Rattle.round_lookahead.specs.inside.Backs.{back_of, with_done, ids_of, lines
 -- ---- lists
 
 module _ {X : Type 0} where
-  pub first_of : (P : X → Type 0) (l rest : List X) (x : X) → l ≡ x ∷ rest → All P l → P x
-  first_of P l rest x is all = Each_from_All P (x ∷ rest) (subst (All P) is all) x (inl refl)
-
-  pub rest_of : (P : X → Type 0) (l rest : List X) (x : X) → l ≡ x ∷ rest → All P l → All P rest
-  rest_of P l rest x is all = All_from_Each P rest (λ y h. Each_from_All P (x ∷ rest) (subst (All P) is all) y (inr h))
-
   -- what is left completes the whole once some of it is there
   pub completes : (old new more left whole : List X) → new ≡ old ++ more → old ++ (more ++ left) ≡ whole → new ++ left ≡ whole
   completes old new more left whole is all = ap (λ (l : List X). l ++ left) is ∙ append_assoc old more left ∙ all
-
-  pub at_index : (xs : List X) (i : ℕ) (x : X) → i < length xs → x ≡ get_or xs i x → slice_get xs i ≡ Some x
-  at_index [] i x below is = absurd (omega arith)
-  at_index (y ∷ ys) zero x below is = ap Some (sym is)
-  at_index (y ∷ ys) (suc i) x below is = at_index ys i x (omega arith) is
 
 map_more : {X Y : Type 0} (f : X → Y) (xs : List X) (x : X) → map f (xs ++ x ∷ []) ≡ map f xs ++ f x ∷ []
 map_more f [] x = refl
@@ -73,10 +63,6 @@ in_slot (d ∷ ds) slots apart below e (inr h) =
     (λ x g. (let long = length-set slots d.id.index (Some (back_of d)) in let b = below x (inr g) in omega arith)) e h
 
 -- ---- workers' work, one after another
-
-pub flat_append : {X Y : Type 0} (f : X → List Y) (xs ys : List X) → flat_map f (xs ++ ys) ≡ flat_map f xs ++ flat_map f ys
-flat_append f [] ys = refl
-flat_append f (x ∷ xs) ys = ap (λ (l : List _). f x ++ l) (flat_append f xs ys) ∙ sym (append_assoc (f x) (flat_map f xs) (flat_map f ys))
 
 -- what is left of workers' work completes the whole
 pub record IsReturning (count : ℕ) (works left : List Worked) (r : Returned) : Type 0 where

@@ -1,25 +1,11 @@
--- What lines of a log come to, as more come.
-use Rattle.std.proofs.Common.{◌≡◌, ℕ, ◌+◌, ◌<◌, List, [], ◌∷◌, ◌++◌, map, length, take, get_or, refl, sym, ap, ◌∙◌, append_assoc}
-use Rattle.std.proofs.lemmas.List.{map_more}
+-- The lines of a log, as more come.
+use Rattle.std.proofs.Common.{◌≡◌, List, [], ◌∷◌, ◌++◌, map, refl, sym, ap, ◌∙◌}
 use Rattle.host_link.specs.declared.line.Line.{Line}
 use Rattle.host_link.specs.declared.line.Logged.{Logged}
 use Rattle.host_link.specs.Logs.{lines_of, kept_lines}
 use Rattle.host_state.specs.Running.{kept_line}
 use Rattle.world_order.specs.World as order
-use Rattle.round_lookahead.specs.declared.world.counts.Counts.{Counts}
-use Rattle.round_lookahead.specs.Counts.{counts_of}
 use Rattle.round_lookahead.proofs.WorldSteps.{map_both}
-
--- one more line
-pub counted_more : (start old new : Counts) (lines : List Logged) (i : ℕ) (line : Logged) → i < length lines → line ≡ get_or lines i line
-    → ((log : List Line) → start ≡ counts_of log → old ≡ counts_of (log ++ kept_lines (take i lines)))
-    → ((log : List Line) → old ≡ counts_of log → new ≡ counts_of (log ++ line.line ∷ []))
-    → (log : List Line) → start ≡ counts_of log → new ≡ counts_of (log ++ kept_lines (take (i + 1) lines))
-counted_more start old new lines i line below is so_far step log begins =
-    let first : List Line = kept_lines (take i lines) in
-    let more : kept_lines (take (i + 1) lines) ≡ first ++ line.line ∷ [] =
-    map_more (λ (l : Logged). l.line) lines i line below ∙ ap (λ (l : Logged). first ++ l.line ∷ []) (sym is) in
-    step (log ++ first) (so_far log begins) ∙ ap counts_of (append_assoc log first (line.line ∷ []) ∙ ap (λ (l : List Line). log ++ l) (sym more))
 
 pub lines_kept : (ls : List (order.Logged Line)) → kept_lines (map kept_line ls) ≡ lines_of ls
 lines_kept [] = refl

@@ -24,12 +24,12 @@ use Rattle.world_order.specs.WholeTurns.{unfired, rests}
 use Rattle.world_order.proofs.Members.{IsIn, Each, Each_from_All, All_from_Each}
 use Rattle.round_lookahead.specs.declared.workers.host_task.HostTask.{HostTask}
 use Rattle.round_lookahead.specs.declared.workers.worked.Done.{Done}
-use Rattle.round_lookahead.specs.inside.Arrivals.{Boxed, arrivals}
-use Rattle.round_lookahead.specs.inside.Dues.{first_due}
+use Rattle.round_parts.specs.Arrivals.{Boxed, arrivals}
+use Rattle.round_parts.specs.Dues.{first_due}
 use Rattle.round_lookahead.specs.inside.Idles.{IsIdle, is_busy}
 use Rattle.round_lookahead.specs.Tasks.{IsTask, waiting}
 use Rattle.round_lookahead.specs.inside.Works.{HasRun}
-use Rattle.round_lookahead.proofs.DueSteps.{any_in, IsDue, IsFrom, least_both, least-one}
+use Rattle.round_parts.proofs.DueSteps.{any_in, IsDue, IsFrom, least_both, least-one}
 
 -- ---- the first that is due
 

@@ -1,5 +1,4 @@
 pub mod Packets
-pub mod PostSteps
 pub mod TaskRuns
 pub mod WorkSteps
 pub mod AloneSteps
@@ -12,11 +11,9 @@ pub mod WholeRounds
 pub mod SortedLogs
 pub mod RoundOrders
 pub mod RoundJobs
-pub mod DueSteps
 pub mod IdleSteps
 pub mod WaitSteps
 pub mod BackSteps
-pub mod DeliverySteps
 pub mod MergeSteps
 pub mod SettleSteps
 pub mod PlaceSteps

@@ -29,16 +29,17 @@ use Rattle.round_lookahead.specs.declared.world.in_place.Alone.{Alone}
 use Rattle.round_lookahead.specs.declared.world.gained.Gained.{Gained}
 use Rattle.round_lookahead.specs.declared.world.settling.Settled.{Settled}
 use Rattle.round_lookahead.specs.inside.Alone.{AreRunInPlace}
-use Rattle.round_lookahead.specs.inside.Arrivals.{Boxed, arrivals}
-use Rattle.round_lookahead.specs.inside.Backs.{all_done, all_spilled, ids_of, lines_done, lists_of, took_by, row_arrivals, AreAtHome}
-use Rattle.round_lookahead.specs.inside.Dues.{first_due, lesser_due}
+use Rattle.round_parts.specs.Arrivals.{Boxed, arrivals}
+use Rattle.round_lookahead.specs.inside.Backs.{all_done, all_spilled, ids_of, lines_done, lists_of, took_by}
+use Rattle.round_parts.specs.Rows.{row_arrivals, AreAtHome}
+use Rattle.round_parts.specs.Dues.{first_due, lesser_due}
 use Rattle.round_lookahead.specs.inside.RoundsInPlace.{IsRoundInPlace}
 use Rattle.round_lookahead.specs.inside.Settles.{IsBack, HasSettled}
 use Rattle.round_lookahead.specs.inside.Waits.{IsSameHosts, rows_of}
 use Rattle.round_lookahead.specs.Tasks.{waiting}
 use Rattle.round_lookahead.specs.Took.{hosts_below, took_in}
 use Rattle.round_lookahead.proofs.AloneSteps.{AreIdle, alone_round, holding, idle_spills}
-use Rattle.round_lookahead.proofs.DeliverySteps.{row-home, row-more}
+use Rattle.round_parts.proofs.DeliverySteps.{row-home, row-more}
 use Rattle.round_lookahead.proofs.SettleSteps.{get_or_is}
 use Rattle.round_lookahead.proofs.WaitSteps.{due_with, held_waits, waits_with}
 

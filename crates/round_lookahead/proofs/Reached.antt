@@ -20,7 +20,7 @@ use Rattle.round_lookahead.specs.Gains.{HasRound}
 use Rattle.round_lookahead.specs.Reached.{HasReached, soonest, time_left}
 use Rattle.round_lookahead.specs.Tasks.{waiting}
 use Rattle.round_lookahead.specs.WorldStands.{HostWorld, nanos_of, HasRounds, IsAhead, IsBetweenRounds, WorldStands}
-use Rattle.round_lookahead.proofs.DueSteps.{any_in}
+use Rattle.round_parts.proofs.DueSteps.{any_in}
 use Rattle.round_lookahead.proofs.Extending.{result_extends}
 use Rattle.round_lookahead.proofs.WorldSteps.{simulation, between_settled, settled_between}
 

@@ -21,7 +21,7 @@ use Rattle.host_state.specs.HostRecord.{HostRecord}
 use Rattle.round_lookahead.specs.declared.workers.bench.Bench.{Bench}
 use Rattle.round_lookahead.specs.declared.workers.host_task.HostTask.{HostTask}
 use Rattle.round_lookahead.specs.declared.workers.worked.Worked.{Worked}
-use Rattle.round_lookahead.specs.inside.Arrivals.{Boxed}
+use Rattle.round_parts.specs.Arrivals.{Boxed}
 use Rattle.round_lookahead.specs.inside.Benches.{AreBenches, AreParts, HaveWorked, IsReady, IsUnusedOf}
 use Rattle.round_lookahead.specs.inside.Rounds.{IsRound}
 use Rattle.round_lookahead.specs.Tasks.{AreTasks, AreTasksOf}

@@ -17,9 +17,9 @@ use Rattle.host_state.specs.HostRecord.{HostRecord}
 use Rattle.round_lookahead.specs.declared.workers.bench.Bench.{Bench}
 use Rattle.round_lookahead.specs.declared.workers.host_task.HostTask.{HostTask}
 use Rattle.round_lookahead.specs.declared.workers.worked.Worked.{Worked}
-use Rattle.round_lookahead.specs.inside.Arrivals.{Boxed}
+use Rattle.round_parts.specs.Arrivals.{Boxed}
 use Rattle.round_lookahead.specs.inside.Benches.{HasWorked, HaveWorked}
-use Rattle.round_lookahead.specs.Posts.{IsPosted, carried, given_back}
+use Rattle.round_parts.specs.Posts.{IsPosted, carried, given_back}
 use Rattle.round_lookahead.specs.inside.Rounds.{AreWorks}
 use Rattle.round_lookahead.specs.Tasks.{AreTasks}
 use Rattle.round_lookahead.specs.Works.{HostJob, IsWork, numbers, parcels_made}

@@ -27,8 +27,9 @@ use Rattle.round_lookahead.specs.declared.workers.worked.Worked.{Worked}
 use Rattle.round_lookahead.specs.declared.world.backs.Back.{Back}
 use Rattle.round_lookahead.specs.declared.world.retasking.Retasked.{Retasked}
 use Rattle.round_lookahead.specs.declared.world.settling.Settled.{Settled}
-use Rattle.round_lookahead.specs.inside.Arrivals.{Boxed}
-use Rattle.round_lookahead.specs.inside.Backs.{back_of, with_done, all_done, all_spilled, lines_done, took_by, row_arrivals, AreAtHome}
+use Rattle.round_parts.specs.Arrivals.{Boxed}
+use Rattle.round_lookahead.specs.inside.Backs.{back_of, with_done, all_done, all_spilled, lines_done, took_by}
+use Rattle.round_parts.specs.Rows.{row_arrivals, AreAtHome}
 use Rattle.round_lookahead.specs.inside.Retasks.{seen_in, AreRetasked}
 use Rattle.round_lookahead.specs.inside.Settles.{done_numbers, CanSettle, IsBack, HasSettled}
 use Rattle.round_lookahead.specs.Took.{took_in}

@@ -13,8 +13,8 @@ use Rattle.host_inbox.specs.Drains.{IsDrained}
 use Rattle.host_inbox.proofs.RowSteps.{rows_hold}
 use Rattle.world_order.proofs.Members.{IsIn, Each, IsIn_left, IsIn_right, IsIn_either, Contains_from_IsIn, IsIn_from_Contains, Each_from_All, All_from_Each, Each_cons, Each-append, IsIn_filter, IsIn_filter_from}
 use Rattle.round_lookahead.specs.declared.workers.worked.Worked.{Worked}
-use Rattle.round_lookahead.specs.inside.Arrivals.{Boxed}
-use Rattle.round_lookahead.specs.Posts.{IsPosted, carried, given_back}
+use Rattle.round_parts.specs.Arrivals.{Boxed}
+use Rattle.round_parts.specs.Posts.{IsPosted, carried, given_back}
 use Rattle.round_lookahead.specs.inside.Rounds.{all_parcels}
 
 -- ---- puts and spills

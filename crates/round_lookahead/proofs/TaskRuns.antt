@@ -23,7 +23,7 @@ use Rattle.world_order.specs.WholeTurns.{RunsTo}
 use Rattle.world_order.proofs.Members.{Each_from_All, All_from_Each}
 use Rattle.round_lookahead.specs.declared.workers.host_task.HostTask.{HostTask}
 use Rattle.round_lookahead.specs.declared.workers.worked.Done.{Done}
-use Rattle.round_lookahead.specs.inside.Arrivals.{Boxed, arrivals}
+use Rattle.round_parts.specs.Arrivals.{Boxed, arrivals}
 use Rattle.round_lookahead.specs.Tasks.{IsTask, waiting}
 use Rattle.round_lookahead.specs.Works.{IsRunOf}
 use Rattle.round_lookahead.proofs.Packets.{IsOwn, packets_events, parcels_within}

@@ -13,12 +13,12 @@ use Rattle.world_order.proofs.Parts.{second_first}
 use Rattle.round_lookahead.specs.declared.workers.host_task.HostTask.{HostTask}
 use Rattle.round_lookahead.specs.declared.workers.worked.Done.{Done}
 use Rattle.round_lookahead.specs.inside.Alone.{held_by}
-use Rattle.round_lookahead.specs.inside.Arrivals.{Boxed, arrivals}
-use Rattle.round_lookahead.specs.inside.Backs.{row_arrivals}
-use Rattle.round_lookahead.specs.inside.Dues.{first_due, lesser_due}
+use Rattle.round_parts.specs.Arrivals.{Boxed, arrivals}
+use Rattle.round_parts.specs.Rows.{row_arrivals}
+use Rattle.round_parts.specs.Dues.{first_due, lesser_due}
 use Rattle.round_lookahead.specs.inside.Waits.{IsSameHosts, rows_of}
 use Rattle.round_lookahead.specs.Tasks.{waiting}
-use Rattle.round_lookahead.proofs.DueSteps.{any_in, in_any, IsDue, IsFrom, least_both}
+use Rattle.round_parts.proofs.DueSteps.{any_in, in_any, IsDue, IsFrom, least_both}
 use Rattle.round_lookahead.proofs.IdleSteps.{first-is}
 
 -- ---- two parts

@@ -33,19 +33,20 @@ use Rattle.world_order.proofs.Members.{IsIn, IsIn_left, IsIn_either, IsIn_permut
 use Rattle.round_lookahead.specs.declared.workers.host_task.HostTask.{HostTask}
 use Rattle.round_lookahead.specs.declared.workers.worked.Done.{Done}
 use Rattle.round_lookahead.specs.declared.workers.worked.Worked.{Worked}
-use Rattle.round_lookahead.specs.declared.world.counts.Counts.{Counts}
+use Rattle.round_parts.specs.declared.counts.Counts.{Counts}
 use Rattle.round_lookahead.specs.declared.world.gained.Gained.{Gained}
-use Rattle.round_lookahead.specs.declared.world.load.Load.{Load}
+use Rattle.round_parts.specs.declared.load.Load.{Load}
 use Rattle.round_lookahead.specs.declared.world.settling.Settled.{Settled}
 use Rattle.round_lookahead.specs.declared.world.world_state.World.{World}
-use Rattle.round_lookahead.specs.inside.Arrivals.{Boxed, arrivals}
-use Rattle.round_lookahead.specs.inside.Backs.{all_done, all_spilled, took_by, ids_of, row_arrivals, AreAtHome}
-use Rattle.round_lookahead.specs.Counts.{counts_of}
+use Rattle.round_parts.specs.Arrivals.{Boxed, arrivals}
+use Rattle.round_lookahead.specs.inside.Backs.{all_done, all_spilled, took_by, ids_of}
+use Rattle.round_parts.specs.Rows.{row_arrivals, AreAtHome}
+use Rattle.round_parts.specs.Counts.{counts_of}
 use Rattle.round_lookahead.specs.Gains.{IsTaken, HasTurns, turns_from}
 use Rattle.round_lookahead.specs.inside.Gains.{IsGained, HasGained}
 use Rattle.round_lookahead.specs.inside.RoundsInPlace.{IsRoundInPlace}
 use Rattle.round_lookahead.specs.inside.Rounds.{IsRound, AreWorks, all_parcels}
-use Rattle.round_lookahead.specs.inside.Dues.{first_due}
+use Rattle.round_parts.specs.Dues.{first_due}
 use Rattle.round_lookahead.specs.inside.Settles.{done_numbers, CanSettle, IsBack, HasSettled}
 use Rattle.round_lookahead.specs.Tasks.{waiting, AreTasks}
 use Rattle.round_lookahead.specs.Took.{took_in}
@@ -53,7 +54,7 @@ use Rattle.round_lookahead.specs.Works.{HostJob, AreDone}
 use Rattle.round_lookahead.specs.WorldStands.{HostWorld, nanos_of, StandsAt, WorldStands}
 use Rattle.round_lookahead.proofs.Extending.{result_extends}
 use Rattle.round_lookahead.proofs.CountSteps.{lines_gained}
-use Rattle.round_lookahead.proofs.DueSteps.{any_in, in_any}
+use Rattle.round_parts.proofs.DueSteps.{any_in, in_any}
 use Rattle.round_lookahead.proofs.RoundJobs as round_jobs
 use Rattle.round_lookahead.proofs.RunSteps.{IsRunBy, AreRun, job_done, done_job, run_lines}
 use Rattle.round_lookahead.proofs.SettleSteps.{done_of, get_or_is}

@@ -26,8 +26,8 @@ use Rattle.world_order.proofs.Homes.{some_is}
 use Rattle.world_order.proofs.Members.{IsIn, Each, IsIn_either, IsIn_permutation, Each_from_All, All_from_Each, Each-append}
 use Rattle.round_lookahead.specs.declared.workers.host_task.HostTask.{HostTask}
 use Rattle.round_lookahead.specs.declared.world.world_state.World.{World}
-use Rattle.round_lookahead.specs.inside.Arrivals.{Boxed, arrivals}
-use Rattle.round_lookahead.specs.Counts.{counts_of}
+use Rattle.round_parts.specs.Arrivals.{Boxed, arrivals}
+use Rattle.round_parts.specs.Counts.{counts_of}
 use Rattle.round_lookahead.specs.OpeningWorld.{AreHostRows, IsOpened, opening_world}
 use Rattle.round_lookahead.specs.inside.OpeningWorld.{AreOpened}
 use Rattle.round_lookahead.specs.Tasks.{waiting}

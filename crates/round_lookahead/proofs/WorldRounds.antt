@@ -30,8 +30,9 @@ use Rattle.round_lookahead.specs.declared.workers.host_task.HostTask.{HostTask}
 use Rattle.round_lookahead.specs.declared.workers.worked.Done.{Done}
 use Rattle.round_lookahead.specs.declared.workers.worked.Worked.{Worked}
 use Rattle.round_lookahead.specs.declared.world.world_state.World.{World}
-use Rattle.round_lookahead.specs.inside.Arrivals.{Boxed}
-use Rattle.round_lookahead.specs.inside.Backs.{all_done, all_spilled, row_arrivals}
+use Rattle.round_parts.specs.Arrivals.{Boxed}
+use Rattle.round_lookahead.specs.inside.Backs.{all_done, all_spilled}
+use Rattle.round_parts.specs.Rows.{row_arrivals}
 use Rattle.round_lookahead.specs.inside.Rounds.{IsRound, all_parcels}
 use Rattle.round_lookahead.specs.inside.Settles.{CanSettle}
 use Rattle.round_lookahead.specs.Tasks.{waiting}

@@ -26,8 +26,8 @@ use Rattle.world_order.proofs.Homes.{some_is, get_below, below_get}
 use Rattle.world_order.proofs.Members.{IsIn, IsIn_left, IsIn_right, IsIn_either, IsIn_permutation, Each, Each_from_All, All_from_Each}
 use Rattle.round_lookahead.specs.declared.workers.host_task.HostTask.{HostTask}
 use Rattle.round_lookahead.specs.declared.world.world_state.World.{World}
-use Rattle.round_lookahead.specs.inside.Arrivals.{Boxed, arrivals}
-use Rattle.round_lookahead.specs.inside.Backs.{row_arrivals}
+use Rattle.round_parts.specs.Arrivals.{Boxed, arrivals}
+use Rattle.round_parts.specs.Rows.{row_arrivals}
 use Rattle.round_lookahead.specs.Tasks.{waiting, IsTask, AreTasks, AreTasksOf}
 use Rattle.round_lookahead.specs.Works.{HostJob, parcels_made, parcels_by}
 use Rattle.round_lookahead.specs.WorldStands.{HostWorld, HasRounds, IsBetweenRounds, StandsAt, WorldStands}

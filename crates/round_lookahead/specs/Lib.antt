@@ -1,10 +1,8 @@
 pub mod Tasks
-pub mod Posts
 pub mod Works
 pub mod WorldStands
 pub mod Took
 pub mod Gains
-pub mod Counts
 pub mod OpeningWorld
 pub mod Reached
 pub mod inside

@@ -7,7 +7,7 @@ use Rattle.host_state.specs.HostStands.{Stands}
 use Rattle.host_state.specs.Running.{Owns}
 use Rattle.world_order.specs.EventOrder.{AreApart}
 use Rattle.round_lookahead.specs.declared.workers.host_task.HostTask.{HostTask}
-use Rattle.round_lookahead.specs.inside.Arrivals.{arrivals}
+use Rattle.round_parts.specs.Arrivals.{arrivals}
 
 -- the events that the host holds, and its packets
 abbrev pub waiting : HostTask → List Event

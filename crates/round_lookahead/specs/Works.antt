@@ -15,8 +15,8 @@ use Rattle.world_order.specs.WholeTurns.{Job, Ran, RunsTo}
 use Rattle.round_lookahead.specs.declared.workers.host_task.HostTask.{HostTask}
 use Rattle.round_lookahead.specs.declared.workers.worked.Done.{Done}
 use Rattle.round_lookahead.specs.declared.workers.worked.Worked.{Worked}
-use Rattle.round_lookahead.specs.inside.Arrivals.{Boxed}
-use Rattle.round_lookahead.specs.Posts.{IsPosted}
+use Rattle.round_parts.specs.Arrivals.{Boxed}
+use Rattle.round_parts.specs.Posts.{IsPosted}
 use Rattle.round_lookahead.specs.Tasks.{waiting}
 
 -- a host that a worker ran, by its number

@@ -18,7 +18,7 @@ use Rattle.world_order.specs.Settled.{next_at}
 use Rattle.world_order.specs.World as order
 use Rattle.round_lookahead.specs.declared.workers.host_task.HostTask.{HostTask}
 use Rattle.round_lookahead.specs.declared.world.world_state.World.{World}
-use Rattle.round_lookahead.specs.Counts.{counts_of}
+use Rattle.round_parts.specs.Counts.{counts_of}
 use Rattle.round_lookahead.specs.Tasks.{waiting}
 
 -- hosts by number, the events that wait, and the packet log

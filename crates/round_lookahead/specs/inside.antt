@@ -1,9 +1,7 @@
 -- what stands while a round goes on, and as its hosts and packets are put back
 pub mod Alone
-pub mod Arrivals
 pub mod Backs
 pub mod Benches
-pub mod Dues
 pub mod Idles
 pub mod Retasks
 pub mod Rounds

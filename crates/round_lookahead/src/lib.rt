@@ -9,7 +9,6 @@ pub use laws::{one_result, rounds_reach_the_result};
 pub use workers::host_task::HostTask;
 pub use workers::worked::{Done, Worked};
 pub use workers::working::work;
-pub use world::counts::Counts;
 pub use world::pieces::Pieces;
 pub use world::took::Took;
 pub use world::world_state::World;

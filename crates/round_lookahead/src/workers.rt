@@ -4,7 +4,6 @@ pub(crate) mod bench;
 pub(crate) mod busy;
 pub(crate) mod fork;
 pub(crate) mod host_task;
-pub(crate) mod posting;
 pub(crate) mod round;
 pub(crate) mod running;
 pub(crate) mod worked;

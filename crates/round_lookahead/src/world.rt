@@ -1,8 +1,6 @@
 //! The world, round by round.
 
 pub(crate) mod backs;
-pub(crate) mod counts;
-pub(crate) mod delivery;
 pub(crate) mod due;
 pub(crate) mod gained;
 pub(crate) mod in_place;

@@ -27,10 +27,10 @@ use Rattle.file_calls.specs.Guest.{first_id}
 use Rattle.net_run.specs.Pieces.{with_pieces, PutsFront}
 use Rattle.net_run.specs.Rest.{all_rest, summary_in, unmet_of_hosts, TellsStates, AreTold}
 use Rattle.net_run.specs.Shown.{named, named_log, run_pieces, status_by, status_of}
-use Rattle.round_lookahead.specs.Counts as lines
-use Rattle.round_lookahead.specs.Counts.{counts_of}
+use Rattle.round_parts.specs.Counts as lines
+use Rattle.round_parts.specs.Counts.{counts_of}
 use Rattle.round_lookahead.specs.WorldStands.{WorldStands}
-use Rattle.round_lookahead.specs.declared.world.counts.Counts.{Counts}
+use Rattle.round_parts.specs.declared.counts.Counts.{Counts}
 use Rattle.round_lookahead.specs.declared.world.world_state.World as rounds
 use Rattle.shadow_top.specs.inside.Ending.{TellsAll, PutsEnd}
 use Rattle.shadow_top.specs.inside.Rounds.{StandsAt}

@@ -13,7 +13,7 @@ use Rattle.round_lookahead.specs.declared.workers.host_task.HostTask.{HostTask}
 use Rattle.round_lookahead.specs.declared.workers.worked.Done.{Done}
 use Rattle.round_lookahead.specs.declared.world.in_place.Alone.{Alone}
 use Rattle.round_lookahead.specs.inside.Backs.{ids_of, lines_done}
-use Rattle.round_lookahead.specs.inside.Dues.{lesser_due}
+use Rattle.round_parts.specs.Dues.{lesser_due}
 use Rattle.round_lookahead.specs.Tasks.{AreTasks}
 use Rattle.round_lookahead.specs.Took.{hosts_below}
 use Rattle.round_lookahead.specs.Works.{HostJob, AreDone, numbers, parcels_made}

@@ -1,19 +1,13 @@
 -- Hosts that come back from workers, by their numbers.
-use Rattle.std.specs.Prelude.{◌≡◌, ℕ, All, List, [], ◌∷◌, ◌++◌, map, flat_map, replicate, Option, Some, None, slice_set, Vec}
+use Rattle.std.specs.Prelude.{◌≡◌, ℕ, List, [], ◌∷◌, ◌++◌, map, flat_map, replicate, Option, Some, None, slice_set, Vec}
 use Rattle.std.specs.declared.alloc.Global.{Global}
-use Rattle.sim_base.specs.declared.event.Event.{Event}
 use Rattle.sim_base.specs.declared.event.Parcel.{Parcel}
 use Rattle.sim_base.specs.declared.host.HostId.{HostId}
-use Rattle.list_weights.specs.Places.{EachAt}
 use Rattle.host_link.specs.declared.line.Logged.{Logged}
-use Rattle.host_link.specs.Net.{Net}
-use Rattle.host_link.specs.Home.{home}
-use Rattle.host_link.specs.Parcels.{parcel_event}
 use Rattle.round_lookahead.specs.declared.workers.worked.Done.{Done}
 use Rattle.round_lookahead.specs.declared.workers.worked.Worked.{Worked}
 use Rattle.round_lookahead.specs.declared.world.backs.Back.{Back}
 use Rattle.round_lookahead.specs.declared.world.backs.Returned.{Returned}
-use Rattle.round_lookahead.specs.inside.Arrivals.{Boxed, arrivals}
 
 abbrev pub back_of : Done → Back
 back_of d = record { id = d.id; host = d.host; outputs = d.outputs }
@@ -55,11 +49,3 @@ pub record AreReturned (count : ℕ) (works : List Worked) (r : Returned) : Type
   pub lines : r.lines.items ≡ lines_done (all_done works)
   pub took : lists_of r.took.items ≡ took_by works
   pub spill : r.spill.items ≡ all_spilled works
-
--- the events of packets that lie in rows
-abbrev pub row_arrivals : List (Vec Boxed Global) → List Event
-row_arrivals rows = flat_map (λ row. arrivals row.items) rows
-
--- each packet lies in the row of the host at which it fires
-abbrev pub AreAtHome : Net → List (Vec Boxed Global) → Type 0
-AreAtHome net rows = EachAt (λ host (row : Vec Boxed Global). All (λ (b : Boxed). home net (parcel_event b.value) ≡ host) row.items) rows

@@ -4,7 +4,7 @@ use Rattle.atomic_table.specs.Seated.{TableId}
 use Rattle.list_weights.specs.Places.{EachAt}
 use Rattle.host_inbox.specs.CarrierViews.{BoardsView, CarrierView}
 use Rattle.steal_workers.specs.SeatViews.{SeatView, IsSameSeat, HasMark}
-use Rattle.round_lookahead.specs.inside.Arrivals.{Boxed}
+use Rattle.round_parts.specs.Arrivals.{Boxed}
 use Rattle.round_lookahead.specs.declared.workers.host_task.HostTask.{HostTask}
 use Rattle.host_link.specs.Net.{Net}
 use Rattle.host_state.specs.HostRecord.{HostRecord}

@@ -5,7 +5,7 @@ use Rattle.run_files.specs.Written.{written_in}
 use Rattle.round_lookahead.specs.declared.workers.host_task.HostTask.{HostTask}
 use Rattle.round_lookahead.specs.declared.world.backs.Back.{Back}
 use Rattle.round_lookahead.specs.declared.world.retasking.Retasked.{Retasked}
-use Rattle.round_lookahead.specs.inside.Arrivals.{Boxed}
+use Rattle.round_parts.specs.Arrivals.{Boxed}
 
 -- one task more is that of the host that came back, with these packets
 pub record IsRetasked (back : Back) (parcels : Vec Boxed Global) (old new : List HostTask) : Type 0 where

@@ -9,7 +9,7 @@ use Rattle.host_link.specs.Net.{Net}
 use Rattle.host_state.specs.HostRecord.{HostRecord}
 use Rattle.round_lookahead.specs.declared.workers.host_task.HostTask.{HostTask}
 use Rattle.round_lookahead.specs.declared.workers.worked.Worked.{Worked}
-use Rattle.round_lookahead.specs.inside.Arrivals.{Boxed}
+use Rattle.round_parts.specs.Arrivals.{Boxed}
 use Rattle.round_lookahead.specs.Works.{HostJob, AreDone, numbers, parcels_made}
 
 -- the work of workers, from that number on: each one's jobs

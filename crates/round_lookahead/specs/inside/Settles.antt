@@ -15,8 +15,9 @@ use Rattle.round_lookahead.specs.declared.workers.host_task.HostTask.{HostTask}
 use Rattle.round_lookahead.specs.declared.workers.worked.Done.{Done}
 use Rattle.round_lookahead.specs.declared.workers.worked.Worked.{Worked}
 use Rattle.round_lookahead.specs.declared.world.settling.Settled.{Settled}
-use Rattle.round_lookahead.specs.inside.Arrivals.{Boxed}
-use Rattle.round_lookahead.specs.inside.Backs.{all_done, all_spilled, lines_done, took_by, row_arrivals, AreAtHome}
+use Rattle.round_parts.specs.Arrivals.{Boxed}
+use Rattle.round_lookahead.specs.inside.Backs.{all_done, all_spilled, lines_done, took_by}
+use Rattle.round_parts.specs.Rows.{row_arrivals, AreAtHome}
 use Rattle.round_lookahead.specs.Took.{took_in}
 
 abbrev pub done_numbers : List Done → List ℕ

@@ -3,7 +3,7 @@ use Rattle.std.specs.Prelude.{◌≡◌, List, [], ◌∷◌, ◌++◌, map, Vec
 use Rattle.std.specs.declared.alloc.Global.{Global}
 use Rattle.sim_base.specs.declared.event.Parcel.{Parcel}
 use Rattle.round_lookahead.specs.declared.workers.host_task.HostTask.{HostTask}
-use Rattle.round_lookahead.specs.inside.Arrivals.{Boxed}
+use Rattle.round_parts.specs.Arrivals.{Boxed}
 
 -- the packets of each host
 abbrev pub rows_of : List HostTask → List (Vec Boxed Global)

@@ -2,7 +2,7 @@
 
 ghost use Rattle.std.proofs.Props.{props};
 ghost use Rattle.std.specs.Prelude.{◌≡◌};
-ghost use Rattle.round_lookahead.specs.inside.Dues.{first_due};
+ghost use Rattle.round_parts.specs.Dues.{first_due};
 
 use host_state::Host;
 use sim_base::{HostId, Parcel, Time};

@@ -5,7 +5,7 @@ ghost use Rattle.host_state.specs.HostRecord.{HostRecord};
 ghost use Rattle.host_state.specs.HostStands.{IsSameBody};
 ghost use Rattle.host_link.specs.Parcels.{parcel_event};
 ghost use Rattle.world_order.specs.EventOrder.{AreApart};
-ghost use Rattle.round_lookahead.specs.inside.Arrivals.{arrivals};
+ghost use Rattle.round_parts.specs.Arrivals.{arrivals};
 ghost use Rattle.round_lookahead.specs.Tasks.{IsTask};
 ghost use Rattle.round_lookahead.specs.inside.Works.{HasRun, done_of};
 

@@ -10,10 +10,10 @@ ghost use Rattle.round_lookahead.specs.Tasks.{IsTask, AreTasks, AreTasksOf};
 ghost use Rattle.round_lookahead.specs.Works.{HostJob, IsWorkOf, IsWork};
 
 use crate::workers::host_task::HostTask;
-use crate::workers::posting::post_all;
 use crate::workers::worked::{Done, Worked};
 use host_inbox::{Boards, Carrier};
 use host_link::{Net, Outbox};
+use round_parts::post_all;
 use sim_base::{NoMemory, Parcel, Time};
 use std::alloc::Global;
 use steal_workers::{Gate, Next, Seat};

@@ -6,9 +6,8 @@ ghost use Rattle.round_lookahead.specs.inside.Alone.{AreRunInPlace, HasKept, Has
 ghost use Rattle.round_lookahead.specs.Tasks.{AreTasksOf};
 
 use crate::workers::host_task::HostTask;
-use crate::world::due::earlier;
-use crate::world::load::RoundLoad;
 use host_link::{Logged, Net, Outbox};
+use round_parts::{RoundLoad, earlier};
 use run_files::Written;
 use sim_base::{NoMemory, Parcel, Time};
 use std::alloc::Global;

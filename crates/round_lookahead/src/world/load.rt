@@ -1,62 +1,9 @@
-//! Whether a round is worth threads, by what the last rounds had to do.
-ghost use Rattle.std.specs.Prelude.{◌≤◌, ◌<◌};
+//! What hosts had to do in a round.
 
 use crate::workers::host_task::HostTask;
+use round_parts::RoundLoad;
 use sim_base::NoMemory;
 use std::alloc::Global;
-
-/// How many instructions a round has to have beside its busiest host for each thread: ten times what it takes to start one and to
-/// wait for its end.
-const THREAD_WORTH: u64 = 300_000;
-
-/// The same for each host that is moved to a worker and back.
-const MOVE_WORTH: u64 = 300;
-
-/// And beside that for each that has something to do.
-const RUN_WORTH: u64 = 2_200;
-
-/// The mean of a round's numbers and those before it has so large a part of it: an eighth.
-const PART: u64 = 8;
-
-/// What hosts had to do in a round: how many they are, what all of them had to do, and what the busiest had. Both are numbers of
-/// instructions, about, and no clause speaks of them.
-#[derive(Drop)]
-pub(crate) struct RoundLoad {
-    hosts: u64,
-    all: u64,
-    busiest: u64,
-}
-
-impl RoundLoad {
-    /// Of no host.
-    pub(crate) fn new() -> RoundLoad {
-        RoundLoad {
-            hosts: 0,
-            all: 0,
-            busiest: 0,
-        }
-    }
-
-    /// Of one host more, which had so much to do.
-    pub(crate) fn add(&mut self, work: u64) {
-        self.hosts = self.hosts.saturating_add(1);
-        self.all = self.all.saturating_add(work);
-        self.busiest = self.busiest.max(work);
-    }
-
-    /// Of all hosts, each of which had so much to do before the round.
-    pub(crate) fn since(tasks: &[HostTask], before: &[u64]) -> RoundLoad {
-        let mut load = RoundLoad::new();
-        let mut works = before.iter();
-        for task in tasks {
-            let Some(before) = works.next() else {
-                break;
-            };
-            load.add(task.work.saturating_sub(*before));
-        }
-        load
-    }
-}
 
 /// What each host had to do so far.
 pub(crate) fn works_of(alloc: Global, tasks: &[HostTask]) -> Result<Vec<u64>, NoMemory> {
@@ -67,50 +14,15 @@ pub(crate) fn works_of(alloc: Global, tasks: &[HostTask]) -> Result<Vec<u64>, No
     Ok(works)
 }
 
-/// What a round had to do beside its busiest host, which is what other threads can take off the caller: the mean of the last rounds,
-/// where the latest count most. None where nothing is known of any.
-#[derive(Drop)]
-pub(crate) struct Load {
-    beside: Option<u64>,
-}
-
-impl Load {
-    /// Before the first round.
-    pub(crate) fn new() -> Load {
-        Load { beside: None }
-    }
-
-    /// In how many threads a round of so many hosts, of which so many are busy, is run that so many threads could run: as many as it is
-    /// worth by what the last rounds had to do, or all, where nothing is known of any.
-    pub(crate) fn threads(&self, most: u32, hosts: usize, busy: usize) -> u32
-        requires { 0 < most }
-        ensures { (0 < result) × (result ≤ most) }
-    {
-        let Some(beside) = self.beside else {
-            return most;
+/// What all hosts had to do in a round, each of which had so much to do before it.
+pub(crate) fn load_since(tasks: &[HostTask], before: &[u64]) -> RoundLoad {
+    let mut load = RoundLoad::new();
+    let mut works = before.iter();
+    for task in tasks {
+        let Some(before) = works.next() else {
+            break;
         };
-        let moves = (hosts as u64).saturating_mul(MOVE_WORTH);
-        let runs = (busy as u64).saturating_mul(RUN_WORTH);
-        let worth = (beside.saturating_sub(moves.saturating_add(runs)) / THREAD_WORTH).max(1);
-        if worth < u64::from(most) {
-            worth as u32
-        } else {
-            most
-        }
+        load.add(task.work.saturating_sub(*before));
     }
-
-    /// Notes what a round had to do. One that a single thread alone could have run leaves the mean as it is.
-    pub(crate) fn note(&mut self, round: RoundLoad) {
-        if round.hosts < 2 {
-            return;
-        }
-        let beside = round.all.saturating_sub(round.busiest);
-        let mean = match self.beside {
-            Some(mean) => mean
-                .saturating_sub(mean / PART)
-                .saturating_add(beside / PART),
-            None => beside,
-        };
-        self.beside = Some(mean);
-    }
+    load
 }

@@ -7,13 +7,12 @@ ghost use Rattle.round_lookahead.specs.inside.OpeningWorld.{AreOpened};
 ghost use Rattle.round_lookahead.specs.WorldStands.{HasRounds, WorldStands, nanos_of};
 
 use crate::workers::host_task::HostTask;
-use crate::world::counts::Counts;
 use crate::world::due::least_due;
-use crate::world::load::Load;
 use crate::world::world_state::World;
 use host_link::Net;
 use host_rows::Row;
 use host_state::Host;
+use round_parts::{Counts, Load};
 use run_files::Listing;
 use sim_base::{NoMemory, Seeds, Time};
 use std::alloc::Global;

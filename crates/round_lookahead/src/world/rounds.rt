@@ -11,7 +11,7 @@ use crate::workers::busy::{busy_count, most_threads};
 use crate::workers::round::{RoundLeft, run_beside};
 use crate::world::due::least_due;
 use crate::world::gained::Gained;
-use crate::world::load::{RoundLoad, works_of};
+use crate::world::load::{load_since, works_of};
 use crate::world::pieces::Pieces;
 use crate::world::settling::{Settled, settle};
 use crate::world::settling_in_place::{RanInPlace, round_in_place};
@@ -84,7 +84,7 @@ impl World {
             )?;
             self.tasks = tasks;
             self.due = due;
-            self.counts.count_round(&gained);
+            gained.count_into(&mut self.counts);
             self.load.note(load);
             return Ok(gained);
         }
@@ -95,9 +95,9 @@ impl World {
         let Settled { tasks, gained } = settle(alloc, count, works, rows)?;
         self.tasks = tasks;
         self.due = least_due(self.tasks.as_slice());
-        self.counts.count_round(&gained);
+        gained.count_into(&mut self.counts);
         self.load
-            .note(RoundLoad::since(self.tasks.as_slice(), before.as_slice()));
+            .note(load_since(self.tasks.as_slice(), before.as_slice()));
         Ok(gained)
     }
 

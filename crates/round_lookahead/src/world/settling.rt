@@ -5,11 +5,11 @@ ghost use Rattle.round_lookahead.specs.inside.Settles.{CanSettle, HasSettled};
 use crate::workers::host_task::HostTask;
 use crate::workers::worked::Worked;
 use crate::world::backs::{Returned, put_back};
-use crate::world::delivery::deliver;
 use crate::world::gained::Gained;
 use crate::world::merging::merge;
 use crate::world::retasking::{Retasked, retask};
 use crate::world::took::Took;
+use round_parts::deliver;
 use sim_base::{NoMemory, Parcel};
 use std::alloc::Global;
 

@@ -2,19 +2,18 @@
 ghost use Rattle.std.specs.Prelude.{◌≡◌, ◌≤◌, ◌<◌, IfOk, flat_map, length};
 ghost use Rattle.sim_base.specs.Units.{latest_time};
 ghost use Rattle.host_inbox.specs.Sizes.{most_inboxes};
-ghost use Rattle.round_lookahead.specs.inside.Dues.{first_due};
+ghost use Rattle.round_parts.specs.Dues.{first_due};
 ghost use Rattle.round_lookahead.specs.inside.RoundsInPlace.{IsRoundInPlace};
 ghost use Rattle.round_lookahead.specs.Tasks.{AreTasksOf, waiting};
 
 use crate::workers::host_task::HostTask;
-use crate::world::due::{earlier, first_spilled};
 use crate::world::gained::Gained;
 use crate::world::in_place::{Alone, run_in_place};
-use crate::world::load::RoundLoad;
 use crate::world::merging::merge;
 use crate::world::took::Took;
 use crate::world::waiting::wait_all;
 use host_link::Net;
+use round_parts::{RoundLoad, earlier, first_spilled};
 use sim_base::{NoMemory, Time};
 use std::alloc::Global;
 use steal_workers::Gate;

@@ -2,11 +2,11 @@
 ghost use Rattle.std.specs.Prelude.{◌≡◌, ◌<◌, Some, length, slice_get};
 ghost use Rattle.host_state.specs.HostRecord.{HostRecord, process_state};
 ghost use Rattle.host_link.specs.Logs.{lines_of};
-ghost use Rattle.round_lookahead.specs.Counts.{counts_of};
+ghost use Rattle.round_parts.specs.Counts.{counts_of};
 ghost use Rattle.round_lookahead.specs.WorldStands.{HostWorld, WorldStands};
 
-use crate::world::counts::Counts;
 use crate::world::world_state::World;
+use round_parts::Counts;
 use run_files::Listing;
 use sim_base::State;
 

@@ -3,7 +3,7 @@ ghost use Rattle.std.specs.Prelude.{◌≡◌, ◌++◌, ◌∷◌, ◌<◌, All
 ghost use Rattle.host_link.specs.Parcels.{parcel_event};
 ghost use Rattle.host_link.specs.Home.{home};
 ghost use Rattle.host_link.specs.Net.{Net};
-ghost use Rattle.round_lookahead.specs.inside.Backs.{row_arrivals, AreAtHome};
+ghost use Rattle.round_parts.specs.Rows.{row_arrivals, AreAtHome};
 ghost use Rattle.round_lookahead.specs.inside.Waits.{HasMore, IsSameHosts, rows_of};
 
 use crate::workers::host_task::HostTask;

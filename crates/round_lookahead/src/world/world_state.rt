@@ -2,13 +2,12 @@
 
 ghost use Rattle.std.proofs.Props.{props};
 ghost use Rattle.std.specs.Prelude.{◌≡◌, flat_map};
-ghost use Rattle.round_lookahead.specs.inside.Dues.{first_due};
+ghost use Rattle.round_parts.specs.Dues.{first_due};
 ghost use Rattle.round_lookahead.specs.Tasks.{waiting};
 
 use crate::workers::host_task::HostTask;
-use crate::world::counts::Counts;
-use crate::world::load::Load;
 use host_link::Net;
+use round_parts::{Counts, Load};
 use run_files::Listing;
 use sim_base::Time;
 

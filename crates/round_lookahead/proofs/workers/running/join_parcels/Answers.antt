@@ -3,7 +3,7 @@ use Rattle.std.specs.Vec.Iter.{into_iter_items}
 use Rattle.sim_base.specs.declared.event.Event.{Event}
 use Rattle.event_order.specs.Events.{has_key, with_event}
 use Rattle.host_link.specs.Parcels.{parcel_event}
-use Rattle.round_lookahead.specs.inside.Arrivals.{arrivals}
+use Rattle.round_parts.specs.Arrivals.{arrivals}
 use Rattle.host_state.proofs.Queues.{queued_on, new_key_on}
 use Rattle.round_lookahead.proofs.workers.running.join_parcels.Goals as goal
 

@@ -1,7 +1,7 @@
 use Rattle.std.proofs.Common.{◌++◌, IsPermutation}
 use Rattle.std.specs.Vec.Iter.{into_iter_items}
 use Rattle.host_state.specs.HostStands.{IsSameBody}
-use Rattle.round_lookahead.specs.inside.Arrivals.{arrivals}
+use Rattle.round_parts.specs.Arrivals.{arrivals}
 use Rattle.round_lookahead.proofs.workers.running.join_parcels.Given as goal
 
 abbrev pub invariant-loop-parcel : goal.invariant-loop-parcel

@@ -3,7 +3,7 @@ use Rattle.std.proofs.lemmas.Result.{on_ok_weaker}
 use Rattle.sim_base.specs.declared.event.Parcel.{Parcel}
 use Rattle.round_lookahead.specs.declared.workers.worked.Done.{Done}
 use Rattle.round_lookahead.specs.inside.Works.{done_of}
-use Rattle.round_lookahead.specs.Posts.{IsPosted}
+use Rattle.round_parts.specs.Posts.{IsPosted}
 use Rattle.round_lookahead.specs.Works.{HostJob, AreDone, parcels_made}
 use Rattle.round_lookahead.proofs.WorkSteps.{done_more, made_more}
 use Rattle.round_lookahead.proofs.workers.working.work_one.Goals as goal

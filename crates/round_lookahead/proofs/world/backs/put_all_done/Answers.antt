@@ -2,7 +2,8 @@ use Rattle.std.proofs.Common.{◌≡◌, ℕ, ◌<◌, ◌++◌, ◌∷◌, [], 
 use Rattle.std.specs.Vec.Iter.{into_iter_items}
 use Rattle.round_lookahead.specs.declared.workers.worked.Done.{Done}
 use Rattle.round_lookahead.specs.inside.Backs.{back_of, with_done, lines_done, ids_of}
-use Rattle.round_lookahead.proofs.BackSteps.{first_of, rest_of, completes}
+use Rattle.round_lookahead.proofs.BackSteps.{completes}
+use Rattle.round_parts.proofs.ListFacts.{first_of, rest_of}
 use Rattle.round_lookahead.proofs.world.backs.put_all_done.Goals as goal
 
 pub put_done-requires : goal.put_done-requires

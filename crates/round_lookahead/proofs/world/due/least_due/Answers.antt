@@ -3,7 +3,7 @@ use Rattle.std.proofs.lemmas.List.{take_all}
 use Rattle.event_order.specs.Events.{IsLeastDue}
 use Rattle.round_lookahead.specs.declared.workers.host_task.HostTask.{HostTask}
 use Rattle.round_lookahead.specs.Tasks.{waiting}
-use Rattle.round_lookahead.proofs.DueSteps.{least_more, parts-more}
+use Rattle.round_parts.proofs.DueSteps.{least_more, parts-more}
 use Rattle.round_lookahead.proofs.IdleSteps.{first-is}
 use Rattle.round_lookahead.proofs.world.due.least_due.Goals as goal
 

@@ -2,7 +2,7 @@ use Rattle.std.proofs.Common.{◌∙◌, ap, sym, subst, Vec, Global}
 use Rattle.std.specs.Prelude.{Box}
 use Rattle.host_state.specs.HostStands.{Begins}
 use Rattle.host_state.specs.declared.host.Host.{Host}
-use Rattle.round_lookahead.specs.inside.Arrivals.{Boxed}
+use Rattle.round_parts.specs.Arrivals.{Boxed}
 use Rattle.round_lookahead.proofs.world.opening.open_host.Goals as goal
 
 pub returns : goal.returns

@@ -4,9 +4,10 @@ use Rattle.std.specs.Vec.Iter.{into_iter_items}
 use Rattle.run_files.specs.Written.{written_in}
 use Rattle.round_lookahead.specs.declared.workers.host_task.HostTask.{HostTask}
 use Rattle.round_lookahead.specs.declared.world.backs.Back.{Back}
-use Rattle.round_lookahead.specs.inside.Arrivals.{Boxed}
+use Rattle.round_parts.specs.Arrivals.{Boxed}
 use Rattle.round_lookahead.specs.inside.Retasks.{seen_in}
-use Rattle.round_lookahead.proofs.BackSteps.{maps_more, rest_of, seen-more}
+use Rattle.round_lookahead.proofs.BackSteps.{maps_more, seen-more}
+use Rattle.round_parts.proofs.ListFacts.{rest_of}
 use Rattle.round_lookahead.proofs.world.retasking.retask.Goals as goal
 
 pub loop-slot-preserved : goal.loop-slot-preserved

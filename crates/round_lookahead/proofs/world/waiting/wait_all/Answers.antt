@@ -1,12 +1,12 @@
-use Rattle.std.proofs.Common.{◌≡◌, ℕ, ◌<◌, ◌∷◌, ◌++◌, List, All, length, map, refl, sym, ap, subst, ◌∙◌}
+use Rattle.std.proofs.Common.{◌≡◌, ℕ, ◌<◌, ◌∷◌, ◌++◌, List, All, length, map, refl, sym, subst, ◌∙◌}
 use Rattle.std.specs.Vec.Iter.{into_iter_items}
 use Rattle.sim_base.specs.declared.event.Parcel.{Parcel}
 use Rattle.host_link.specs.Home.{home}
 use Rattle.host_link.specs.Parcels.{parcel_event}
-use Rattle.round_lookahead.specs.inside.Backs.{row_arrivals}
+use Rattle.round_parts.specs.Rows.{row_arrivals}
 use Rattle.round_lookahead.specs.inside.Waits.{rows_of}
-use Rattle.round_lookahead.proofs.BackSteps.{first_of, rest_of}
-use Rattle.round_lookahead.proofs.DeliverySteps.{delivered_more}
+use Rattle.round_parts.proofs.ListFacts.{first_of, rest_of}
+use Rattle.round_parts.proofs.DeliverySteps.{delivered_more}
 use Rattle.round_lookahead.proofs.PlaceSteps.{same_length}
 use Rattle.round_lookahead.proofs.world.waiting.wait_all.Goals as goal
 

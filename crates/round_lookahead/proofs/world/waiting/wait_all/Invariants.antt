@@ -3,7 +3,7 @@ use Rattle.std.specs.Vec.Iter.{into_iter_items}
 use Rattle.host_link.specs.Parcels.{parcel_event}
 use Rattle.host_link.specs.Home.{home}
 use Rattle.host_link.specs.Net.{Net}
-use Rattle.round_lookahead.specs.inside.Backs.{row_arrivals, AreAtHome}
+use Rattle.round_parts.specs.Rows.{row_arrivals, AreAtHome}
 use Rattle.round_lookahead.specs.inside.Waits.{IsSameHosts, rows_of}
 use Rattle.round_lookahead.proofs.world.waiting.wait_all.Given as goal
 

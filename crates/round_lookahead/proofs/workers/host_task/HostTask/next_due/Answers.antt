@@ -1,8 +1,8 @@
 use Rattle.std.proofs.Common.{List, refl, subst}
 use Rattle.event_order.specs.Events.{IsLeastDue}
-use Rattle.round_lookahead.specs.inside.Arrivals.{Boxed, arrivals}
+use Rattle.round_parts.specs.Arrivals.{Boxed, arrivals}
 use Rattle.round_lookahead.specs.Tasks.{waiting}
-use Rattle.round_lookahead.proofs.DueSteps.{least_more}
+use Rattle.round_parts.proofs.DueSteps.{least_more}
 use Rattle.round_lookahead.proofs.IdleSteps.{least_of}
 use Rattle.round_lookahead.proofs.workers.host_task.HostTask.next_due.Goals as goal
 

@@ -1,7 +1,7 @@
 use Rattle.std.proofs.Common.{◌++◌, refl, sym, subst, Vec, Global}
 use Rattle.world_order.specs.EventOrder.{AreApart}
 use Rattle.host_state.specs.declared.host.Host.{Host}
-use Rattle.round_lookahead.specs.inside.Arrivals.{Boxed, arrivals}
+use Rattle.round_parts.specs.Arrivals.{Boxed, arrivals}
 use Rattle.round_lookahead.proofs.TaskRuns.{all_joined, stands_joined, may_run, to_within, run_of, made}
 use Rattle.round_lookahead.proofs.workers.host_task.HostTask.run_here.Goals as goal
 

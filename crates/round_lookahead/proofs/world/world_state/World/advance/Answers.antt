@@ -36,7 +36,7 @@ returns-clause-turns g c = λ w stands.
     goes_on c.args.self.now w stands c.args.least c.requires.least c.args.workers c.in_ok-works.field-0.works.items c.in_ok-works.field-0.rows.items
     c.in_ok-works.ensures.works c.replace-tasks.result c.replace-tasks.ensures.value c.window-window.result.end.nanos c.window-window.ensures.end c.in_ok-works.ensures.round
     c.len-count.result (let e = c.len-count.ensures in omega (arith, c.args.self.now.tasks.ok.0)) c.in_ok-tasks.field-0 c.in_ok-tasks.ensures
-    c.count_round-2.new.self c.count_round-2.ensures c.note-2.new.self _ _
+    c.count_into-2.new.counts c.count_into-2.ensures c.note-2.new.self _ _
 
 pub round_in_place-requires-clause-few : goal.round_in_place-requires-clause-few
 round_in_place-requires-clause-few g c =
@@ -54,4 +54,4 @@ round_in_place-requires-clause-tasks g c =
 pub returns-then-threads-lt2-clause-turns : goal.returns-then-threads-lt2-clause-turns
 returns-then-threads-lt2-clause-turns g c = λ w stands.
     goes_on_here c.args.self.now w stands c.args.least c.requires.least c.args.workers c.replace-tasks.result c.replace-tasks.ensures.value c.round_in_place.new.tasks c.window-window.result.end.nanos c.window-window.ensures.end
-    c.in_ok-gained.field-0.gained c.in_ok-gained.ensures.round c.count_round.new.self c.count_round.ensures c.note.new.self _ _
+    c.in_ok-gained.field-0.gained c.in_ok-gained.ensures.round c.count_into.new.counts c.count_into.ensures c.note.new.self _ _

@@ -1,0 +1,5 @@
+pub mod Arrivals
+pub mod Rows
+pub mod Posts
+pub mod Dues
+pub mod Counts

@@ -1,0 +1,90 @@
+//! Whether a round is worth threads, by what the last rounds had to do.
+ghost use Rattle.std.specs.Prelude.{◌≤◌, ◌<◌};
+
+/// How many instructions a round has to have beside its busiest host for each thread: ten times what it takes to start one and to
+/// wait for its end.
+const THREAD_WORTH: u64 = 300_000;
+
+/// The same for each host that is moved to a worker and back.
+const MOVE_WORTH: u64 = 300;
+
+/// And beside that for each that has something to do.
+const RUN_WORTH: u64 = 2_200;
+
+/// The mean of a round's numbers and those before it has so large a part of it: an eighth.
+const PART: u64 = 8;
+
+/// What hosts had to do in a round: how many they are, what all of them had to do, and what the busiest had. Both are numbers of
+/// instructions, about, and no clause speaks of them.
+#[derive(Drop)]
+pub struct RoundLoad {
+    hosts: u64,
+    all: u64,
+    busiest: u64,
+}
+
+impl RoundLoad {
+    /// Of no host.
+    pub fn new() -> RoundLoad {
+        RoundLoad {
+            hosts: 0,
+            all: 0,
+            busiest: 0,
+        }
+    }
+
+    /// Of one host more, which had so much to do.
+    pub fn add(&mut self, work: u64) {
+        self.hosts = self.hosts.saturating_add(1);
+        self.all = self.all.saturating_add(work);
+        self.busiest = self.busiest.max(work);
+    }
+}
+
+/// What a round had to do beside its busiest host, which is what other threads can take off the caller: the mean of the last rounds,
+/// where the latest count most. None where nothing is known of any.
+#[derive(Drop)]
+pub struct Load {
+    beside: Option<u64>,
+}
+
+impl Load {
+    /// Before the first round.
+    pub fn new() -> Load {
+        Load { beside: None }
+    }
+
+    /// In how many threads a round of so many hosts, of which so many are busy, is run that so many threads could run: as many as it is
+    /// worth by what the last rounds had to do, or all, where nothing is known of any.
+    pub fn threads(&self, most: u32, hosts: usize, busy: usize) -> u32
+        requires { 0 < most }
+        ensures { (0 < result) × (result ≤ most) }
+    {
+        let Some(beside) = self.beside else {
+            return most;
+        };
+        let moves = (hosts as u64).saturating_mul(MOVE_WORTH);
+        let runs = (busy as u64).saturating_mul(RUN_WORTH);
+        let worth = (beside.saturating_sub(moves.saturating_add(runs)) / THREAD_WORTH).max(1);
+        if worth < u64::from(most) {
+            worth as u32
+        } else {
+            most
+        }
+    }
+
+    /// Notes what a round had to do. One that a single thread alone could have run leaves the mean as it is.
+    pub fn note(&mut self, round: RoundLoad) {
+        if round.hosts < 2 {
+            return;
+        }
+        let beside = round.all.saturating_sub(round.busiest);
+        let mean = match self.beside {
+            Some(mean) => mean
+                .saturating_sub(mean / PART)
+                .saturating_add(beside / PART),
+            None => beside,
+        };
+        self.beside = Some(mean);
+    }
+}
