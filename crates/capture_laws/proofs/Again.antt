@@ -19,7 +19,7 @@ use Rattle.pcap_text.proofs.Written.{read_back}
 use Rattle.run_files.specs.Captures.{has_record, line_record, records_of, is_at, is_on_eth0, is_on_lo, eth0_of, lo_of}
 use Rattle.run_files.specs.LinesFit.{AllFit}
 use Rattle.host_link.specs.declared.line.Line.{Line}
-use Rattle.shadow_top.specs.Captured.{line_with, AreLinesOf}
+use Rattle.run_answers.specs.Captured.{line_with, AreLinesOf}
 use Rattle.capture_laws.specs.ReadAgain.{IsInRange, AllInRange, whole_record, told, AreReadAgain}
 
 abbrev taken : Line → Taken

@@ -10,7 +10,7 @@ use Rattle.pcap_text.specs.Reading.{pcap}
 use Rattle.pcap_text.specs.Writing.{head}
 use Rattle.pcap_text.specs.declared.capture.Record.{Record}
 use Rattle.out_text.specs.Captured.{packet_line}
-use Rattle.shadow_top.specs.Captured.{AreLinesOf}
+use Rattle.run_answers.specs.Captured.{AreLinesOf}
 use Rattle.run_files.specs.Captures.{records_of}
 use Rattle.host_link.specs.declared.line.Line.{Line}
 

@@ -1,4 +1,3 @@
-pub mod CaptureLemmas
 pub mod EndLemmas
 pub mod GrowLemmas
 pub mod NameLemmas

@@ -23,7 +23,7 @@ use Rattle.run_plan.specs.declared.planned.Planned.TheVariants as plan
 use Rattle.run_plan.specs.declared.planned.Run.{Run}
 use Rattle.config_lines.specs.Shown.{shown}
 use Rattle.shd_config.specs.declared.config.Config.{Config}
-use Rattle.shadow_top.specs.Captured.{line_with, AreLinesOf}
+use Rattle.run_answers.specs.Captured.{line_with, AreLinesOf}
 use Rattle.shadow_top.specs.Input.{Input, IsPlanned, IsFirstFault, IsToShow, IsToList, IsToRun, directory_of}
 use Rattle.plan_rows.specs.Rows.{rows_of, net_of}
 use Rattle.shadow_top.specs.Shown.{IsShown, IsRunTo, IsRefused, IsConfigShown, IsCaptureListed, IsRun, pieces_of, refused, configured, listed, ran}

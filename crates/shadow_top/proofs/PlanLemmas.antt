@@ -16,8 +16,8 @@ use Rattle.plan_rows.specs.Rows.{rows_of}
 use Rattle.shadow_top.specs.Shown.{IsRunTo, pieces_of}
 use Rattle.shadow_top.specs.inside.Steps.{RunsOpened, RunsPlan}
 use Rattle.opened_run.specs.declared.opened.Opened.{Opened}
-use Rattle.shadow_top.specs.declared.stop.Answer.{Answer}
-use Rattle.shadow_top.specs.declared.stop.Answer.TheVariants.{Status, Exists}
+use Rattle.run_answers.specs.declared.answer.Answer.{Answer}
+use Rattle.run_answers.specs.declared.answer.Answer.TheVariants.{Status, Exists}
 
 -- the status of a run that was made is the answer of its plan
 abbrev pub answered : Result ℕ WriteError → Result Answer WriteError

@@ -25,17 +25,20 @@ use Rattle.run_plan.specs.declared.planned.Run.{Run}
 use Rattle.config_lines.specs.Shown.{shown}
 use Rattle.shd_config.specs.declared.config.Config.{Config}
 use Rattle.pcap_text.specs.declared.capture.Capture.{Capture}
-use Rattle.shadow_top.specs.Captured.{AreLinesOf}
-use Rattle.shadow_top.specs.Contract.{LogFits, Shows, TellsReadFailed, ShowsPart, TellsPart, read_failed_line}
+use Rattle.run_answers.specs.Answers.{IsSmall, of_reading, ended}
+use Rattle.run_answers.specs.Captured.{AreLinesOf}
+use Rattle.run_answers.specs.Puts.{ShowsConfig, ListsFront, ListsCapture, TellsLine, Tells}
+use Rattle.run_answers.specs.ReadFailed.{read_failed_line}
+use Rattle.run_answers.specs.declared.answer.Answer.{Answer}
+use Rattle.run_answers.specs.declared.answer.Answer.TheVariants.{Status, Exists}
+use Rattle.run_answers.specs.declared.answer.Stop.{Stop}
+use Rattle.run_answers.specs.declared.answer.Stop.TheVariants.{Refused, ReadFailed, WriteFailed, NoMemory}
+use Rattle.shadow_top.specs.Contract.{LogFits, Shows, TellsReadFailed, ShowsPart, TellsPart}
 use Rattle.shadow_top.specs.Input.{Input, input, IsFirstFault, IsToShow, IsToRun, IsToList, IsReached, IsPlanned, directory_of}
 use Rattle.shadow_top.specs.inside.Outcome.{Told, Outcome, showed, failed_reading, failed_writing, wanted_memory}
 use Rattle.shadow_top.specs.Shown.{IsShown, IsRunTo, pieces_of, refused, configured, listed, ran}
-use Rattle.shadow_top.specs.inside.Steps.{Runs, CarriesOut, RunsPlan, RunsInPart, ShowsConfig, ListsFront, ListsCapture, TellsLine, Tells}
-use Rattle.shadow_top.specs.inside.Stop.{CountsSource, CountsSink, IsSmall, of_reading, ended}
-use Rattle.shadow_top.specs.declared.stop.Answer.{Answer}
-use Rattle.shadow_top.specs.declared.stop.Answer.TheVariants.{Status, Exists}
-use Rattle.shadow_top.specs.declared.stop.Stop.{Stop}
-use Rattle.shadow_top.specs.declared.stop.Stop.TheVariants.{Refused, ReadFailed, WriteFailed, NoMemory}
+use Rattle.shadow_top.specs.inside.Steps.{Runs, CarriesOut, RunsPlan, RunsInPart}
+use Rattle.shadow_top.specs.inside.Stop.{CountsSource, CountsSink}
 use Rattle.shadow_top.proofs.FitLemmas.{refused_fit, config_fit, list_fit, run_fit}
 use Rattle.shadow_top.proofs.OneShown.{OnePlan, OneResult}
 use Rattle.shadow_top.proofs.PartLemmas.{part_begun, part_line, part_text}

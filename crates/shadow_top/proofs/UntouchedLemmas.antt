@@ -10,13 +10,15 @@ use Rattle.run_plan.specs.declared.fault.ReadStop.{ReadStop}
 use Rattle.run_plan.specs.declared.fault.ReadStop.TheVariants as read
 use Rattle.run_plan.specs.declared.planned.Planned.{Planned}
 use Rattle.run_plan.specs.declared.planned.Planned.TheVariants as plan
-use Rattle.shadow_top.specs.Contract.{AddsLine, read_failed_line}
-use Rattle.shadow_top.specs.inside.Steps.{Keeps, CarriesOut, TellsLine, Tells}
-use Rattle.shadow_top.specs.inside.Stop.{of_reading, ended}
-use Rattle.shadow_top.specs.declared.stop.Answer.{Answer}
-use Rattle.shadow_top.specs.declared.stop.Answer.TheVariants.{Status, Exists}
-use Rattle.shadow_top.specs.declared.stop.Stop.{Stop}
-use Rattle.shadow_top.specs.declared.stop.Stop.TheVariants.{Refused, ReadFailed, WriteFailed, NoMemory}
+use Rattle.run_answers.specs.Answers.{of_reading, ended}
+use Rattle.run_answers.specs.Puts.{TellsLine, Tells}
+use Rattle.run_answers.specs.ReadFailed.{read_failed_line}
+use Rattle.run_answers.specs.declared.answer.Answer.{Answer}
+use Rattle.run_answers.specs.declared.answer.Answer.TheVariants.{Status, Exists}
+use Rattle.run_answers.specs.declared.answer.Stop.{Stop}
+use Rattle.run_answers.specs.declared.answer.Stop.TheVariants.{Refused, ReadFailed, WriteFailed, NoMemory}
+use Rattle.shadow_top.specs.Contract.{AddsLine}
+use Rattle.shadow_top.specs.inside.Steps.{Keeps, CarriesOut}
 
 kept_by : (c : Content) (new : Option Content) (p : Planned) (r : Result Answer WriteError) → CarriesOut p c new r → Keeps c new (ended r)
 kept_by c new (plan.Shows config) (Ok answer) told = subst (λ (a : Answer). Keeps c new (ended (Ok a))) (sym told.1) tt

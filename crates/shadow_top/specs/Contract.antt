@@ -1,13 +1,13 @@
 -- What the program promises of its status and of what stands where after it.
-use Rattle.std.specs.Prelude.{◌≡◌, ℕ, ◌⊎◌, List, Option, Some, codes}
+use Rattle.std.specs.Prelude.{◌≡◌, ℕ, ◌⊎◌, List, Option, Some}
 use Rattle.run_outside.specs.Sink.{Content, add}
 use Rattle.run_outside.specs.declared.sink.SinkTarget.TheVariants as target
-use Rattle.out_text.specs.Faults.{file_line}
 use Rattle.run_files.specs.LinesFit.{AllFit}
 use Rattle.host_link.specs.Logs.{lines_of}
 use Rattle.host_state.specs.World.{World}
 use Rattle.net_run.specs.Parts.{IsPart}
 use Rattle.run_plan.specs.declared.planned.Run.{Run}
+use Rattle.run_answers.specs.ReadFailed.{read_failed_line}
 use Rattle.shadow_top.specs.Input.{Input, IsReached, IsToRun}
 use Rattle.shadow_top.specs.Shown.{IsShown, IsRunTo}
 
@@ -22,10 +22,6 @@ pub record Shows (input : Input) (old : Content) (new : Option Content) (status 
   pub shown : IsShown input old whole status
   pub only : (other : Content) (another : ℕ) → IsShown input old other another → (other ≡ whole) × (another ≡ status)
   pub log : LogFits input
-
--- the line of a file that could not be read
-abbrev pub read_failed_line : List ℕ → List ℕ
-read_failed_line file = file_line file (codes "read failed")
 
 -- the line of a file that the order comes to with no fault before it was added, and nothing else
 pub record TellsReadFailed (input : Input) (old : Content) (new : Option Content) : Type 0 where

@@ -1,4 +1,3 @@
-pub mod Captured
 pub mod Contract
 pub mod Input
 pub mod Shown

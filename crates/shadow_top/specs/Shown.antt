@@ -9,7 +9,7 @@ use Rattle.net_run.specs.Shown.{pieces, status_of}
 use Rattle.run_plan.specs.Line.{line_of}
 use Rattle.run_plan.specs.declared.fault.Fault.{Fault}
 use Rattle.run_plan.specs.declared.planned.Run.{Run}
-use Rattle.shadow_top.specs.Captured.{AreLinesOf}
+use Rattle.run_answers.specs.Captured.{AreLinesOf}
 use Rattle.shadow_top.specs.Input.{Input, IsFirstFault, IsToShow, IsToRun, IsToList, directory_of}
 use Rattle.plan_rows.specs.Rows.{rows_of, net_of}
 use Rattle.config_lines.specs.Shown.{shown}

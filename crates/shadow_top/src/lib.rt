@@ -4,12 +4,10 @@
 //! ensure into its proof. So it is proved by the public contracts of the crates below alone.
 #![tactic(auto)]
 
-mod captured;
 mod ending;
 pub mod laws;
 mod rounds;
 mod simulation;
-mod stop;
 mod streams;
 
 pub use simulation::shadow;

@@ -5,95 +5,28 @@ ghost use Rattle.run_outside.specs.Faults.{Rose};
 ghost use Rattle.run_outside.specs.Tally.{CountsWrites};
 ghost use Rattle.opened_run.specs.Opened.{HasOpened};
 ghost use Rattle.run_plan.specs.Limits.{KeepsToLimits, AreLimitsKept};
-ghost use Rattle.run_plan.specs.Line.{line_of};
 ghost use Rattle.run_plan.specs.Names.{AreRowsApart, AreNamesApart};
 ghost use Rattle.run_plan.specs.Routed.{IsRouted, IsRoutedIfRun};
-ghost use Rattle.shadow_top.specs.Contract.{AddsLine, Shows, TellsReadFailed, ShowsPart, TellsPart, read_failed_line};
+ghost use Rattle.run_answers.specs.Answers.{IsSmall};
+ghost use Rattle.shadow_top.specs.Contract.{AddsLine, Shows, TellsReadFailed, ShowsPart, TellsPart};
 ghost use Rattle.shadow_top.specs.Input.{input};
 ghost use Rattle.shadow_top.specs.inside.Outcome.{Outcome};
-ghost use Rattle.shadow_top.specs.inside.Steps.{Keeps, Runs, CarriesOut, RunsPlan, ShowsConfig, RunsOpened, RunsNoted, TellsLine, Tells};
-ghost use Rattle.shadow_top.specs.inside.Stop.{CountsSource, CountsSink, IsSmall};
+ghost use Rattle.shadow_top.specs.inside.Steps.{Keeps, Runs, CarriesOut, RunsPlan, RunsOpened, RunsNoted};
+ghost use Rattle.shadow_top.specs.inside.Stop.{CountsSource, CountsSink};
 
-use crate::captured::list_capture;
 use crate::ending::put_ending;
 use crate::laws::one_shown;
 use crate::rounds::put_run;
-use crate::stop::{Answer, Stop, ended};
-use base_texts::{Name, Text};
-use config_lines::show_into;
 use net_run::{parts_are_between, put_notes};
 use opened_run::{Opened, prepare};
-use out_text::FaultText;
 use round_lookahead::{World, one_result};
-use run_outside::{Sink, SinkTarget, Source, WriteError, put_all};
+use run_answers::{Answer, Stop, ended, list_capture, show_config, tell_stop};
+use run_outside::{Sink, Source, WriteError};
 use run_plan::laws::one_plan;
-use run_plan::{Fault, Planned, Run, read_plan, tell, worker_count};
-use shd_config::Config;
-use sim_base::NoMemory;
-use std::alloc::{AllocGlobal, Global};
+use run_plan::{Planned, Run, read_plan, worker_count};
+use std::alloc::AllocGlobal;
 use std::thread::Threads;
 use steal_workers::Gate;
-
-/// Adds a line to the error stream.
-fn put_line<K: Sink>(sink: &mut K, line: &Text, status: u8) -> u8
-    ensures { TellsLine line.now status (K.content sink.old) (K.content sink.new) (K.tally sink.old) (K.tally sink.new) result }
-{
-    match put_all(sink, &SinkTarget::Err, line.as_bytes()) {
-        Ok(()) => status,
-        Err(WriteError::Failed) => 4,
-        Err(WriteError::NoMemory) => 5,
-    }
-}
-
-fn fault_text(alloc: Global, fault: &Fault) -> Result<Text, NoMemory>
-    ensures { IfOk result (λ line. line ≡ line_of fault.now) }
-{
-    let mut line = Text::new(alloc);
-    tell(alloc, &mut line, fault)?;
-    Ok(line)
-}
-
-fn read_failed_text(alloc: Global, file: &Name) -> Result<Text, NoMemory>
-    ensures { IfOk result (λ line. line ≡ read_failed_line file.now) }
-{
-    let mut line = Text::new(alloc);
-    let text = FaultText::File {
-        file: file.as_str(),
-        what: "read failed",
-    };
-    out_text::fault_line(alloc, &mut line, &text)?;
-    Ok(line)
-}
-
-/// Tells why a run stopped before its end, and gives the status.
-fn tell_stop<K: Sink>(alloc: Global, sink: &mut K, stop: &Stop) -> u8
-    ensures { Tells stop.now (K.content sink.old) (K.content sink.new) (K.tally sink.old) (K.tally sink.new) result }
-{
-    match stop {
-        Stop::Refused(fault) => match fault_text(alloc, fault) {
-            Ok(line) => put_line(sink, &line, 2),
-            Err(NoMemory) => 5,
-        },
-        Stop::ReadFailed(file) => match read_failed_text(alloc, file) {
-            Ok(line) => put_line(sink, &line, 3),
-            Err(NoMemory) => 5,
-        },
-        Stop::WriteFailed => 4,
-        Stop::NoMemory => 5,
-    }
-}
-
-/// Puts a configuration on the output.
-fn show_config<K: Sink>(alloc: Global, sink: &mut K, config: &Config) -> Result<Answer, WriteError>
-    ensures told { IfSome (K.content sink.old) (λ c. ShowsConfig config.now c (K.content sink.new) result) }
-    ensures status { IfOk result IsSmall }
-    ensures count { CountsWrites result (K.tally sink.old) (K.tally sink.new) }
-{
-    let mut text = Text::new(alloc);
-    show_into(config, &mut text)?;
-    put_all(sink, &SinkTarget::Out, text.as_bytes())?;
-    Ok(Answer::Status(0))
-}
 
 /// Makes a run whose notes were written, and writes what it shows: the heads of captures, what a round
 /// gains as soon as the round is over, and the rest at the end.

@@ -12,7 +12,7 @@ use Rattle.pcap_text.specs.Datagram.{datagram, datagram_bytes, longest}
 use Rattle.pcap_text.specs.Packets.{fields, FitsAddr, FitsLoad, Fits, KeepsWhole, IsPacketIn}
 use Rattle.pcap_text.specs.declared.capture.Record.{Record}
 use Rattle.pcap_text.proofs.Datagrams.{datagram_is, is_datagram, tells}
-use Rattle.shadow_top.specs.Captured.{line_with, AreLinesOf}
+use Rattle.run_answers.specs.Captured.{line_with, AreLinesOf}
 
 -- ---- what is decided
 

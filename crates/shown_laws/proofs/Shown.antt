@@ -14,7 +14,7 @@ use Rattle.run_plan.specs.declared.planned.Planned.{Planned}
 use Rattle.run_plan.specs.declared.planned.Planned.TheVariants as plan
 use Rattle.run_plan.specs.declared.planned.Run.{Run}
 use Rattle.config_lines.specs.Shown.{shown}
-use Rattle.shadow_top.specs.Captured.{AreLinesOf}
+use Rattle.run_answers.specs.Captured.{AreLinesOf}
 use Rattle.shadow_top.specs.Input.{Input, IsPlanned, IsToRun, directory_of}
 use Rattle.shadow_top.specs.Shown.{IsShown, pieces_of, refused, configured, listed, ran}
 use Rattle.shown_laws.proofs.Worlds.{some_result}

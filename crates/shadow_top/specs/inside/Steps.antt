@@ -1,33 +1,25 @@
 -- What the steps of the program leave.
-use Rattle.std.specs.Prelude.{◌≡◌, ℕ, ◌⊎◌, List, Option, Some, option_map, Result, Ok, Err, Bool, true, false}
-use Rattle.run_outside.specs.Faults.{Rose}
-use Rattle.run_outside.specs.Sink.{Content, add, begun, AddsFront}
-use Rattle.run_outside.specs.Tally.{EndsByError, StopsAtError}
-use Rattle.run_outside.specs.declared.sink.SinkTarget.TheVariants as target
+use Rattle.std.specs.Prelude.{◌≡◌, ℕ, ◌⊎◌, Option, Some, Result, Ok, Err, Bool, true, false}
+use Rattle.run_outside.specs.Sink.{Content, begun}
 use Rattle.run_outside.specs.declared.sink.WriteError.{WriteError}
-use Rattle.run_outside.specs.declared.tally.Tally.{Tally}
 use Rattle.run_files.specs.LinesFit.{AllFit}
 use Rattle.host_link.specs.Logs.{lines_of}
 use Rattle.host_state.specs.World.{World, IsResult, opening_world}
 use Rattle.net_run.specs.Parts.{Between}
 use Rattle.net_run.specs.Pieces.{with_pieces}
 use Rattle.net_run.specs.Shown.{pieces, all_pieces, status_of}
-use Rattle.pcap_text.specs.declared.capture.Capture.{Capture}
-use Rattle.run_plan.specs.Line.{line_of}
 use Rattle.run_plan.specs.declared.planned.Planned.{Planned}
 use Rattle.run_plan.specs.declared.planned.Planned.TheVariants as plan
 use Rattle.run_plan.specs.declared.planned.Run.{Run}
-use Rattle.config_lines.specs.Shown.{shown}
-use Rattle.shd_config.specs.declared.config.Config.{Config}
-use Rattle.shadow_top.specs.Captured.{AreLinesOf}
-use Rattle.shadow_top.specs.Contract.{Shows, ShowsPart, read_failed_line}
+use Rattle.run_answers.specs.Puts.{ShowsConfig, ListsCapture}
+use Rattle.run_answers.specs.declared.answer.Answer.{Answer}
+use Rattle.run_answers.specs.declared.answer.Answer.TheVariants.{Status, Exists}
+use Rattle.run_answers.specs.declared.answer.Stop.{Stop}
+use Rattle.run_answers.specs.declared.answer.Stop.TheVariants.{Refused, ReadFailed, WriteFailed, NoMemory}
+use Rattle.shadow_top.specs.Contract.{Shows, ShowsPart}
 use Rattle.shadow_top.specs.Input.{Input, IsFirstFault, IsReached, directory_of}
 use Rattle.shadow_top.specs.Shown.{IsRunTo, pieces_of}
 use Rattle.opened_run.specs.declared.opened.Opened.{Opened}
-use Rattle.shadow_top.specs.declared.stop.Answer.{Answer}
-use Rattle.shadow_top.specs.declared.stop.Answer.TheVariants.{Status, Exists}
-use Rattle.shadow_top.specs.declared.stop.Stop.{Stop}
-use Rattle.shadow_top.specs.declared.stop.Stop.TheVariants.{Refused, ReadFailed, WriteFailed, NoMemory}
 
 -- ---- before a stop is told
 
@@ -46,20 +38,6 @@ Runs input old new (Err WriteFailed) = ShowsPart input old new
 Runs input old new (Err NoMemory) = ShowsPart input old new
 
 -- ---- behind an accepted plan: where it stops, a write failed or memory ran out
-
--- what showing a configuration leaves
-abbrev pub ShowsConfig : Config → Content → Option Content → Result Answer WriteError → Type 0
-ShowsConfig config c new (Ok answer) = (new ≡ Some (add target.Out (shown config) c)) × (answer ≡ Status 0)
-ShowsConfig config c new (Err error) = AddsFront target.Out (shown config) (Some c) new
-
--- nothing was put, or a front of the lines of a capture
-abbrev pub ListsFront : Capture → Content → Option Content → Type 0
-ListsFront capture c new = (new ≡ Some c) ⊎ ((lines : List ℕ) × AreLinesOf capture.records lines × AddsFront target.Out lines (Some c) new)
-
--- what listing a capture leaves
-abbrev pub ListsCapture : Capture → Content → Option Content → Result Answer WriteError → Type 0
-ListsCapture capture c new (Ok answer) = (lines : List ℕ) × AreLinesOf capture.records lines × (new ≡ Some (add target.Out lines c)) × (answer ≡ Status 0)
-ListsCapture capture c new (Err error) = ListsFront capture c new
 
 -- what stands is what a world shows, and its log's lines fit; or each target holds a front of that
 abbrev pub Reports : Bool → Bool → World → Content → Option Content → Result ℕ WriteError → Type 0
@@ -101,19 +79,3 @@ abbrev pub CarriesOut : Planned → Content → Option Content → Result Answer
 CarriesOut (plan.Shows config) c new r = ShowsConfig config c new r
 CarriesOut (plan.Runs run) c new r = RunsPlan run c new r
 CarriesOut (plan.Lists capture) c new r = ListsCapture capture c new r
-
--- ---- the telling of a stop
-
--- a line was told, or its write failed, or memory ran out; after an error of the sink it was not called again
-abbrev pub TellsLine : List ℕ → ℕ → Option Content → Option Content → Tally → Tally → ℕ → Type 0
-TellsLine line meant old new before now status =
-    ((status ≡ meant) × (new ≡ option_map (add target.Err line) old) × (now.faults ≡ before.faults) × (now.errors ≡ before.errors))
-    ⊎ (((status ≡ 4) × AddsFront target.Err line old new × Rose before.faults now.faults × EndsByError before.errors now)
-    ⊎ ((status ≡ 5) × AddsFront target.Err line old new × (now.faults ≡ before.faults) × StopsAtError before.errors now))
-
--- what telling a stop leaves: after a write that failed, and where memory ran out, the sink was not called
-abbrev pub Tells : Stop → Option Content → Option Content → Tally → Tally → ℕ → Type 0
-Tells (Refused fault) old new before now status = TellsLine (line_of fault) 2 old new before now status
-Tells (ReadFailed file) old new before now status = TellsLine (read_failed_line file) 3 old new before now status
-Tells WriteFailed old new before now status = (status ≡ 4) × (new ≡ old) × (now ≡ before)
-Tells NoMemory old new before now status = (status ≡ 5) × (new ≡ old) × (now ≡ before)

@@ -4,11 +4,11 @@ ghost use Rattle.std.specs.Prelude.{◌≡◌, ◌++◌, Option, IfSome, IfOk, O
 ghost use Rattle.run_outside.specs.Tally.{CountsWrites};
 ghost use Rattle.sim_base.specs.declared.packet.Packet.{Packet};
 ghost use Rattle.pcap_text.specs.Packets.{IsPacketIn};
-ghost use Rattle.shadow_top.specs.Captured.{line_with, AreLinesOf};
-ghost use Rattle.shadow_top.specs.inside.Steps.{ListsCapture};
-ghost use Rattle.shadow_top.specs.inside.Stop.{IsSmall};
+ghost use Rattle.run_answers.specs.Answers.{IsSmall};
+ghost use Rattle.run_answers.specs.Captured.{line_with, AreLinesOf};
+ghost use Rattle.run_answers.specs.Puts.{ListsCapture};
 
-use crate::stop::Answer;
+use crate::answer::Answer;
 use base_texts::Text;
 use out_text::{cut_line, packet_line};
 use pcap_text::{Capture, Record};
@@ -40,7 +40,7 @@ fn capture_text(alloc: Global, capture: &Capture) -> Result<Text, NoMemory>
 }
 
 /// Puts the lines of a capture on the output.
-pub(crate) fn list_capture<K: Sink>(
+pub fn list_capture<K: Sink>(
     alloc: Global,
     sink: &mut K,
     capture: &Capture,

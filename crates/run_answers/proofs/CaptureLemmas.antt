@@ -3,7 +3,7 @@ use Rattle.std.proofs.Common.{ℕ, List, [], ◌∷◌, ◌++◌, Option, refl, 
 use Rattle.sim_base.specs.declared.packet.Packet.{Packet}
 use Rattle.pcap_text.specs.Packets.{IsPacketIn}
 use Rattle.pcap_text.specs.declared.capture.Record.{Record}
-use Rattle.shadow_top.specs.Captured.{line_with, AreLinesOf}
+use Rattle.run_answers.specs.Captured.{line_with, AreLinesOf}
 
 -- one record more
 pub lines_more : (rs : List Record) (r : Record) (lines : List ℕ) (found : Option Packet) → AreLinesOf rs lines → IsPacketIn r found → AreLinesOf (rs ++ r ∷ []) (lines ++ line_with r found)

@@ -1,7 +1,7 @@
 //! What a plan comes to, and why a run stops before its end.
 
 ghost use Rattle.std.specs.Prelude.{◌≡◌};
-ghost use Rattle.shadow_top.specs.inside.Stop.{ended};
+ghost use Rattle.run_answers.specs.Answers.{ended};
 
 use base_texts::Name;
 use run_outside::WriteError;
@@ -27,7 +27,7 @@ pub enum Stop {
 }
 
 impl From<ReadStop> for Stop {
-    ghost use Rattle.shadow_top.specs.inside.Stop.{of_reading};
+    ghost use Rattle.run_answers.specs.Answers.{of_reading};
 
     ghost from_gives = { λ read s. s ≡ of_reading read };
 
@@ -41,7 +41,7 @@ impl From<ReadStop> for Stop {
 }
 
 /// The status of a plan that was carried out, or why it stopped.
-pub(crate) fn ended(answer: Result<Answer, WriteError>) -> Result<u8, Stop>
+pub fn ended(answer: Result<Answer, WriteError>) -> Result<u8, Stop>
     ensures { result ≡ ended answer }
 {
     match answer {

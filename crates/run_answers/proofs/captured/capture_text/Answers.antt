@@ -1,9 +1,9 @@
 use Rattle.std.proofs.Common.{◌≡◌, ◌+◌, ◌<◌, ◌∷◌, [], ◌++◌, List, length, take, get_or, sym, ap, subst, ◌∙◌, arith}
 use Rattle.std.proofs.lemmas.List.{take_more}
 use Rattle.pcap_text.specs.declared.capture.Record.{Record}
-use Rattle.shadow_top.specs.Captured.{AreLinesOf}
-use Rattle.shadow_top.proofs.CaptureLemmas.{lines_more}
-use Rattle.shadow_top.proofs.captured.capture_text.Goals as goal
+use Rattle.run_answers.specs.Captured.{AreLinesOf}
+use Rattle.run_answers.proofs.CaptureLemmas.{lines_more}
+use Rattle.run_answers.proofs.captured.capture_text.Goals as goal
 
 pub loop-taken-preserved : goal.loop-taken-preserved
 loop-taken-preserved c =

@@ -1,0 +1,4 @@
+pub mod Answers
+pub mod Captured
+pub mod Puts
+pub mod ReadFailed
