@@ -22,11 +22,14 @@ static uint32_t draw(uint32_t number, uint32_t count)
 
 static void report(uint32_t hops)
 {
-    print("heard at ");
-    print_number(now());
-    print(" ns over ");
-    print_number(hops);
-    print(" hops\n");
+    struct line line;
+    line.size = 0;
+    add(&line, "heard at ");
+    add_number(&line, now());
+    add(&line, " ns over ");
+    add_number(&line, hops);
+    add(&line, " hops\n");
+    write_line(&line);
 }
 
 static void tell(int fd, uint32_t number, uint32_t count, uint32_t rounds, uint32_t hops)

@@ -7,6 +7,7 @@ int main(int argc, char **argv)
     char bytes[8] = {0};
     struct sockaddr_in to;
     struct timespec second = {1, 0};
+    struct line line;
     uint32_t count, answers = 0;
     int fd = socket(AF_INET, SOCK_DGRAM, 0);
 
@@ -26,15 +27,17 @@ int main(int argc, char **argv)
             recv(fd, bytes, sizeof bytes, 0);
             memcpy(&got, bytes, sizeof got);
         }
-        print_number(i);
+        line.size = 0;
+        add_number(&line, i);
         if (got == i) {
             answers++;
-            print(": ");
-            print_number(now() - sent);
-            print(" ns\n");
+            add(&line, ": ");
+            add_number(&line, now() - sent);
+            add(&line, " ns\n");
         } else {
-            print(": no answer\n");
+            add(&line, ": no answer\n");
         }
+        write_line(&line);
     }
     print_number(answers);
     print(" of ");

@@ -1,4 +1,4 @@
-/* Writing numbers and texts to descriptor 1, and reading numbers and addresses from texts. */
+/* Writing numbers, texts and lines to descriptor 1, and reading numbers and addresses from texts. */
 #ifndef PRINT_H
 #define PRINT_H
 
@@ -9,18 +9,56 @@ static inline void print(const char *text)
     write(1, text, strlen(text));
 }
 
+/* a number in decimal digits, at the end of a text that has room for it. A division of 64 bits is a call of libgcc: none is made
+ * where 32 bits are enough. */
+static inline const char *decimal(char text[21], int64_t value)
+{
+    size_t at = 20;
+    uint64_t n = value < 0 ? -(uint64_t)value : (uint64_t)value;
+    uint32_t low;
+    text[at] = 0;
+    for (; n >> 32; n /= 10)
+        text[--at] = (char)('0' + n % 10);
+    low = (uint32_t)n;
+    do
+        text[--at] = (char)('0' + low % 10);
+    while (low /= 10);
+    if (value < 0)
+        text[--at] = '-';
+    return text + at;
+}
+
 static inline void print_number(int64_t value)
 {
     char text[21];
-    size_t at = sizeof text - 1;
-    uint64_t n = value < 0 ? -(uint64_t)value : (uint64_t)value;
-    text[at] = 0;
-    do
-        text[--at] = (char)('0' + n % 10);
-    while (n /= 10);
-    if (value < 0)
-        text[--at] = '-';
-    print(text + at);
+    print(decimal(text, value));
+}
+
+/* what is put together to be written at once */
+struct line {
+    size_t size;
+    char text[120];
+};
+
+static inline void write_line(struct line *line)
+{
+    write(1, line->text, line->size);
+    line->size = 0;
+}
+
+static inline void add(struct line *line, const char *text)
+{
+    for (; *text; text++) {
+        if (line->size == sizeof line->text)
+            write_line(line);
+        line->text[line->size++] = *text;
+    }
+}
+
+static inline void add_number(struct line *line, int64_t value)
+{
+    char text[21];
+    add(line, decimal(text, value));
 }
 
 /* a decimal number, and the place behind it */
