@@ -6,7 +6,8 @@ use file_calls::Known;
 use guest_args::four;
 use guest_mem::Mem;
 use host_calls::{Answer, Parts, answers_now, close_all, do_call, start_task};
-use sim_base::{Book, Bytes, Draws, Ip, Time};
+use host_draws::Draws;
+use sim_base::{Book, Bytes, Ip, Time};
 use std::alloc::Global;
 use std::test::Fail;
 

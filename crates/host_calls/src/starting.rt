@@ -8,10 +8,11 @@ use crate::all::Parts;
 use call_parts::start;
 use file_calls::{Outputs, Shared, Task};
 use guest_mem::Mem;
+use host_draws::Draws;
 use host_files::Files;
 use host_sockets::Sockets;
 use host_wants::Outlet;
-use sim_base::{Draws, Ip, NoMemory};
+use sim_base::{Ip, NoMemory};
 use std::alloc::Global;
 
 /// A process starts with a memory: its descriptors 0, 1 and 2 are its standard input, output and

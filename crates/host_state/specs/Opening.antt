@@ -1,6 +1,6 @@
 -- The host of the opening world, and the events that it begins with.
 use Rattle.std.specs.Prelude.{[], length, replicate}
-use Rattle.sim_base.specs.Draws.{host_generator}
+use Rattle.host_draws.specs.Draws.{host_generator}
 use Rattle.host_calls.specs.Starting.{no_parts}
 use Rattle.host_link.specs.declared.line.Line.{Line}
 use Rattle.guest_process.specs.declared.process.Process.TheVariants as process

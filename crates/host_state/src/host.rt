@@ -10,9 +10,10 @@ ghost use Rattle.host_state.specs.HostStands.{Stands, Fires, Begins, IsSameBody}
 use event_order::{Queue, Refused};
 use guest_process::{Process, not_started};
 use host_calls::Parts;
+use host_draws::Seeds;
 use host_link::{Link, Net, Outbox, hand_made_on};
 use host_rows::Row;
-use sim_base::{Event, NoMemory, Seeds, State, Time};
+use sim_base::{Event, NoMemory, State, Time};
 
 /// A host without the events that it holds. Its work is about what it had to do so far, as a number of instructions: no clause
 /// speaks of it.

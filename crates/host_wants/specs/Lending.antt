@@ -1,7 +1,7 @@
 -- the generator of a host, lent: what stands there afterwards is what its draws go on from
 use Rattle.std.specs.Prelude.{ℕ, List}
 use Rattle.std.specs.Borrow.{Lends, MutBor, Fml}
-use Rattle.sim_base.specs.contracts.draws.Draws as draws
+use Rattle.host_draws.specs.contracts.draws.Draws as draws
 use Rattle.host_wants.specs.contracts.outlet.Outlet.{the_row}
 use Rattle.host_wants.specs.Wanted.{Wanted}
 

@@ -4,7 +4,7 @@ use Rattle.sim_base.specs.Units.{longest_wait, max_u64}
 use Rattle.sim_base.specs.declared.alarm.AlarmTarget.{AlarmTarget}
 use Rattle.sim_base.specs.declared.packet.Packet.{Packet}
 use Rattle.sim_base.specs.declared.time.Time.{Time}
-use Rattle.sim_base.specs.Draws.{draw}
+use Rattle.host_draws.specs.Draws.{draw}
 use Rattle.host_wants.specs.declared.outlet.Want.{Want}
 use Rattle.host_wants.specs.declared.outlet.Want.TheVariants.{Send, Alarm}
 

@@ -3,7 +3,8 @@
 ghost use Rattle.std.specs.Prelude.{◌≡◌, ◌++◌, ◌∷◌, [], OnOk, IfOk};
 ghost use Rattle.host_wants.specs.Wanted as spec;
 
-use sim_base::{AlarmTarget, Draws, NoMemory, Packet, Time};
+use host_draws::Draws;
+use sim_base::{AlarmTarget, NoMemory, Packet, Time};
 use std::alloc::Global;
 use std::marker::Model;
 use std::mem;

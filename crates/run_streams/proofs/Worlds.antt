@@ -3,7 +3,7 @@ use Rattle.std.proofs.Common.{◌≡◌, inl, ⊎_elim, ℕ, zero, suc, ◌+◌,
 use Rattle.std.specs.List.Sorted.{IsPermutation}
 use Rattle.std.proofs.lemmas.List.Elements.{Contains-append_left, Contains-append_right, Contains-append_cases, filter_map-append}
 use Rattle.std.proofs.lemmas.List.Sorted.{Contains-permutation, IsPermutation-refl, IsPermutation-sym}
-use Rattle.sim_base.specs.Draws.{host_generator}
+use Rattle.host_draws.specs.Draws.{host_generator}
 use Rattle.sim_base.specs.declared.address.Ip.{Ip}
 use Rattle.sim_base.specs.declared.address.Addr.{Addr}
 use Rattle.sim_base.specs.declared.event.Event.{Event}

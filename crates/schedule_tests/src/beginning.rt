@@ -5,6 +5,7 @@ ghost use Rattle.host_state.specs.World.{AreRows, opening_world};
 ghost use Rattle.round_schedule.specs.Standing.{HostsStand};
 ghost use Rattle.schedule_tests.specs.inside.Played.{MayBegin, HasBegun};
 
+use host_draws::Seeds;
 use host_link::Net;
 use host_rows::Row;
 use host_state::Host;
@@ -12,7 +13,7 @@ use opened_run::{Opened, open};
 use round_lookahead::one_result;
 use round_schedule::Round;
 use run_plan::Run;
-use sim_base::{NoMemory, Seeds, Time};
+use sim_base::{NoMemory, Time};
 use std::alloc::Global;
 
 /// The hosts of rows, as each begins.

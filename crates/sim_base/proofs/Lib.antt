@@ -1,4 +1,3 @@
 pub mod BookLemmas
-pub mod DrawsLemmas
 pub mod PortLemmas
 pub mod RefusalLemmas

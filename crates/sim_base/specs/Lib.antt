@@ -1,7 +1,6 @@
 pub mod AddressLaws
 pub mod Addresses
 pub mod Ascii
-pub mod Draws
 pub mod Errno
 pub mod Key
 pub mod KeyLaws

@@ -1,8 +1,9 @@
 //! The sockets of a host: numbers that no socket has, and ports that are all had.
 
+use host_draws::Draws;
 use host_sockets::Sockets;
 use host_wants::{CallError, Outlet, Refusal};
-use sim_base::{Addr, Around, Book, Draws, Errno, Ip, Time};
+use sim_base::{Addr, Around, Book, Errno, Ip, Time};
 use sock_udp::{UdpError, UdpSock};
 use std::alloc::Global;
 use std::test::Fail;

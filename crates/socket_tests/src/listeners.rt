@@ -4,8 +4,8 @@
 mod listening;
 
 use crate::segments::{Line, end, name, segment, told};
+use host_draws::Draws;
 use listening::LISTENING;
-use sim_base::Draws;
 use sock_tcp::{Effects, Listener, refusal};
 use std::alloc::Global;
 use std::test::Fail;

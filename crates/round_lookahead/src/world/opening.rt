@@ -9,12 +9,13 @@ ghost use Rattle.round_lookahead.specs.WorldStands.{HasRounds, WorldStands, nano
 use crate::workers::host_task::HostTask;
 use crate::world::due::least_due;
 use crate::world::world_state::World;
+use host_draws::Seeds;
 use host_link::Net;
 use host_rows::Row;
 use host_state::Host;
 use round_parts::{Counts, Load};
 use run_files::Listing;
-use sim_base::{NoMemory, Seeds, Time};
+use sim_base::{NoMemory, Time};
 use std::alloc::Global;
 
 /// The host of a row at the beginning.

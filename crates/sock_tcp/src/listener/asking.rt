@@ -6,7 +6,8 @@ ghost use Rattle.sock_tcp.specs.listener.Listen.{asks, load_header, asks_in, lis
 use crate::connection::{Conn, Effects, Opened};
 use crate::listener::Listener;
 use crate::segment::Header;
-use sim_base::{Addr, Draws, Ip, Load, NoMemory, Packet};
+use host_draws::Draws;
+use sim_base::{Addr, Ip, Load, NoMemory, Packet};
 
 /// Whether it is a SYN alone.
 fn asks(header: Header) -> bool
@@ -50,7 +51,7 @@ fn listens_at(to: Addr, local: Addr) -> bool
 
 impl Listener {
     ghost use Rattle.std.specs.Prelude.{true, IfOk, OnOk, if◌then◌else◌};
-    ghost use Rattle.sim_base.specs.Draws.{draw};
+    ghost use Rattle.host_draws.specs.Draws.{draw};
     ghost use Rattle.sock_tcp.specs.listener.Listen.{Listen, has_room, makes_record, asked, new_heard, header_makes, takes, takes_word};
     ghost use Rattle.sock_tcp.specs.listener.ListensFor.{ListensFor, Tells};
 

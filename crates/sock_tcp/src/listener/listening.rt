@@ -2,11 +2,12 @@
 
 use crate::connection::{Carried, Draft, Effects, add_carried, bit_if, place_in, reset_all};
 use crate::listener::Listener;
-use sim_base::{Addr, Draws, NoMemory, POLLIN, Packet};
+use host_draws::Draws;
+use sim_base::{Addr, NoMemory, POLLIN, Packet};
 
 impl Listener {
     ghost use Rattle.std.specs.Prelude.{◌≡◌, ◌<◌, length, nat_lt, is_some, IfSome, IfOk, OnOk, if◌then◌else◌};
-    ghost use Rattle.sim_base.specs.Draws.{draw};
+    ghost use Rattle.host_draws.specs.Draws.{draw};
     ghost use Rattle.sock_tcp.specs.connection.Pairs.{place_in};
     ghost use Rattle.sock_tcp.specs.connection.Arrival.{takes_packet};
     ghost use Rattle.sock_tcp.specs.connection.Process.{expires};

@@ -1,5 +1,5 @@
 use Rattle.std.proofs.Common.{◌≡◌, ℕ, List, [], length, replicate, ap, ◌∙◌, subst, refl}
-use Rattle.sim_base.specs.Draws.{host_generator}
+use Rattle.host_draws.specs.Draws.{host_generator}
 use Rattle.host_calls.specs.Parts.{PartsStand}
 use Rattle.host_calls.specs.Starting.{no_parts}
 use Rattle.guest_process.specs.declared.process.Process.TheVariants as process

@@ -1,5 +1,5 @@
 use Rattle.std.proofs.Common.{if◌then◌else◌, sym, ap, ◌∙◌}
-use Rattle.sim_base.specs.Draws.{draw}
+use Rattle.host_draws.specs.Draws.{draw}
 use Rattle.sock_tcp.specs.connection.Arrival.{takes_packet}
 use Rattle.sock_tcp.specs.listener.Listen.{new_heard, load_header, hears}
 use Rattle.sock_tcp.proofs.Listeners.Dropping.{gone_kept, gone_none}

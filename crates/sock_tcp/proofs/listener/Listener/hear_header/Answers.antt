@@ -1,5 +1,5 @@
 use Rattle.std.proofs.Common.{◌≡◌, true, false, if◌then◌else◌, sym, ap, ◌∙◌}
-use Rattle.sim_base.specs.Draws.{draw}
+use Rattle.host_draws.specs.Draws.{draw}
 use Rattle.sock_tcp.specs.listener.Listen.{makes_record}
 use Rattle.sock_tcp.proofs.Listeners.ListenActs.{tells_not_made}
 use Rattle.sock_tcp.proofs.listener.Listener.hear_header.Goals as goal

@@ -1,5 +1,5 @@
 use Rattle.std.proofs.Common.{Option, if◌then◌else◌, ap, subst, ◌∙◌}
-use Rattle.sim_base.specs.Draws.{draw}
+use Rattle.host_draws.specs.Draws.{draw}
 use Rattle.sock_tcp.specs.declared.segment.header.Header.{Header}
 use Rattle.sock_tcp.specs.listener.Listen.{new_heard, header_makes}
 use Rattle.sock_tcp.specs.listener.ListensFor.{Tells}

@@ -1,5 +1,5 @@
 use Rattle.std.proofs.Common.{◌≡◌, ℕ, ◌%◌, ◌^◌, List, refl, ap, subst}
-use Rattle.sim_base.specs.Draws.{draw}
+use Rattle.host_draws.specs.Draws.{draw}
 use Rattle.sock_tcp.specs.connection.Process.{answered}
 use Rattle.sock_tcp.specs.connection.StandsFor.{Gives}
 use Rattle.sock_tcp.proofs.Listeners.ListenActs.{tells_made}

@@ -1,6 +1,6 @@
 -- words of a generator, from one draw to the next
 use Rattle.std.proofs.Common.{◌≡◌, ℕ, suc, ◌+◌, List, ap, ◌∙◌, arith}
-use Rattle.sim_base.specs.Draws.{draw, word_of}
+use Rattle.host_draws.specs.Draws.{draw, word_of}
 
 one_on : (at n : ℕ) → at + suc n ≡ at + 1 + n
 one_on at n = omega arith

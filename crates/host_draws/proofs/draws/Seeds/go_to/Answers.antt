@@ -1,6 +1,6 @@
-use Rattle.sim_base.specs.Draws.{seeded}
-use Rattle.sim_base.proofs.DrawsLemmas.{told_on}
-use Rattle.sim_base.proofs.draws.Seeds.go_to.Goals as goal
+use Rattle.host_draws.specs.Draws.{seeded}
+use Rattle.host_draws.proofs.DrawsLemmas.{told_on}
+use Rattle.host_draws.proofs.draws.Seeds.go_to.Goals as goal
 
 pub invariant_of-self : goal.invariant_of-self
 invariant_of-self c = record {

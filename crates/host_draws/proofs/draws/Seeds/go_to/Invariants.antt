@@ -1,5 +1,5 @@
 use Rattle.std.proofs.Common.{◌≡◌}
-use Rattle.sim_base.proofs.draws.Seeds.go_to.Given as goal
+use Rattle.host_draws.proofs.draws.Seeds.go_to.Given as goal
 
 abbrev pub invariant-loop-host : goal.invariant-loop-host
 invariant-loop-host l = (l.self.at ≡ l._host) × (l.self.seed ≡ l.fn.self.seed)

@@ -1,7 +1,7 @@
 use Rattle.std.proofs.Common.{◌≡◌, ◌+◌, ℕ, List, ap, ◌∙◌, arith}
-use Rattle.sim_base.specs.Draws.{seeded, word_of}
-use Rattle.sim_base.proofs.DrawsLemmas.{told_on}
-use Rattle.sim_base.proofs.draws.Seeds.draws.Goals as goal
+use Rattle.host_draws.specs.Draws.{seeded, word_of}
+use Rattle.host_draws.proofs.DrawsLemmas.{told_on}
+use Rattle.host_draws.proofs.draws.Seeds.draws.Goals as goal
 
 pub invariant_of-self : goal.invariant_of-self
 invariant_of-self c = record {

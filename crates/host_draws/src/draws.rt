@@ -2,7 +2,7 @@
 
 ghost use Rattle.std.proofs.Props.{props};
 ghost use Rattle.std.specs.Prelude.{◌≡◌, ◌+◌, ◌≤◌, ℕ};
-ghost use Rattle.sim_base.specs.Draws.{draw, host_generator, seeded, word_of};
+ghost use Rattle.host_draws.specs.Draws.{draw, host_generator, seeded, word_of};
 
 use rand_core::SeedableRng;
 use rand_core::utils::NextWord;

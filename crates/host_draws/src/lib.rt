@@ -1,0 +1,6 @@
+//! The random words that hosts draw.
+#![tactic(auto)]
+
+mod draws;
+
+pub use draws::{Draws, Seeds};
