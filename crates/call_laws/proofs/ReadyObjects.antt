@@ -29,8 +29,8 @@ use Rattle.host_sockets.specs.TcpSocket.{TcpSocket, connected, kept_error}
 use Rattle.host_sockets.specs.Accepting.{accepts_in, accepts_of}
 use Rattle.host_sockets.specs.Connecting.{connect_ends, connect_error}
 use Rattle.host_sockets.specs.Moving.{may_recv, would_read}
-use Rattle.host_sockets.specs.Ready.{ready_of, ready_in, udp_ready_in}
-use Rattle.host_sockets.specs.Udp.{recv_asked_in}
+use Rattle.udp_slots.specs.Slots.{udp_ready_in, recv_asked_in}
+use Rattle.host_sockets.specs.Ready.{ready_of, ready_in}
 use Rattle.host_calls.specs.Epoll.{has_due, waits_for}
 use Rattle.file_calls.specs.Eventfd.{number_fits}
 use Rattle.file_calls.specs.Files.{is_drained}

@@ -22,7 +22,8 @@ use Rattle.host_sockets.specs.declared.reply.Reply.TheVariants.{Done, Failed}
 use Rattle.host_wants.specs.Refusals.{by_errno, waits_if}
 use Rattle.host_wants.specs.Wanted.{Wanted}
 use Rattle.host_sockets.specs.Sockets.{SocketsRecord}
-use Rattle.host_sockets.specs.Udp.{binds_udp, connects_udp, sends_udp, only_state, udp_fits, receives_udp, recv_udp_asked, oldest_datagram, udp_in}
+use Rattle.udp_slots.specs.Slots.{only_state, oldest_datagram}
+use Rattle.host_sockets.specs.Udp.{binds_udp, connects_udp, sends_udp, udp_fits, receives_udp, recv_udp_asked, udp_in}
 use Rattle.host_sockets.specs.Accepting.{accepts_tcp, accept_asked, accept_ready, accepts_at}
 use Rattle.host_sockets.specs.Connecting.{taking, without_change, connect_waited, connect_answers}
 use Rattle.host_sockets.specs.Moving.{send_asked, sends_bytes, sends_taking, recv_asked, receives_bytes, receives_taking}

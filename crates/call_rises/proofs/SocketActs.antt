@@ -24,7 +24,8 @@ use Rattle.host_sockets.specs.TcpSocket.{TcpSocket, fresh, with_bound, with_tcb,
 use Rattle.host_sockets.specs.Sockets.{SocketsRecord, tcb_at, changes_at, changes_in, tcp_place, new_tcp}
 use Rattle.host_sockets.specs.TcpActs.{Acted, is_let_go, let_go, starts, turned, turned_in, record_acts, acts_in, acts_at}
 use Rattle.host_sockets.specs.ListenerActs.{heard}
-use Rattle.host_sockets.specs.Udp.{udp_in, udp_around, with_udp, acted_udp, udp_acts, only_state, oldest_datagram, closes_udp, binds_udp, connects_udp, sends_udp, receives_udp, new_udp}
+use Rattle.udp_slots.specs.Slots.{only_state, oldest_datagram}
+use Rattle.host_sockets.specs.Udp.{udp_in, udp_around, with_udp, acted_udp, udp_acts, closes_udp, binds_udp, connects_udp, sends_udp, receives_udp, new_udp}
 use Rattle.host_sockets.specs.Binding.{bind_asked, binds_tcp, listen_asked, listening, listens_tcp}
 use Rattle.host_sockets.specs.Accepting.{accept_asked, accepts_at, accepted, given_up, placed, accepts_tcp}
 use Rattle.host_sockets.specs.Connecting.{connect_asked, opens, connects, connects_taking, taking, error_takes, connect_waited, connect_answers, without_change}

@@ -9,7 +9,8 @@ use Rattle.host_wants.specs.Refusals.{by_errno}
 use Rattle.host_sockets.specs.declared.sockets.Sockets.{Sockets}
 use Rattle.host_sockets.specs.Sockets.{SocketsRecord}
 use Rattle.host_sockets.specs.StandsFor.{Stand}
-use Rattle.host_sockets.specs.Udp.{udp_in, udp_ends, udp_around, only_state}
+use Rattle.udp_slots.specs.Slots.{only_state}
+use Rattle.host_sockets.specs.Udp.{udp_in, udp_ends, udp_around}
 use Rattle.host_sockets.proofs.UdpSlots.{told_udp}
 
 -- the surroundings of a call that looks at no other socket

@@ -14,8 +14,9 @@ use Rattle.host_sockets.specs.Rises.{udp_glance, slot_glance, moved_at}
 use Rattle.host_sockets.specs.Sockets.{SocketsRecord}
 use Rattle.host_sockets.specs.StandsFor.{AllStand, Stand, Becomes}
 use Rattle.host_sockets.specs.Udp.{udp_in, socket_in, with_udp, udp_acts, acted_udp}
-use Rattle.host_sockets.specs.inside.Udp.{SlotDoes}
-use Rattle.host_sockets.specs.Arriving.{slot_arrives, datagram_in}
+use Rattle.udp_slots.specs.SlotActs.{SlotDoes}
+use Rattle.udp_slots.specs.Slots.{slot_arrives}
+use Rattle.host_sockets.specs.Arriving.{datagram_in}
 use Rattle.host_sockets.proofs.Endings.{UdpActEnds, same_moved}
 
 slot_there : (slots : List (Option UdpState)) (k : ℕ) (d : Option UdpState) → k < length slots → slice_get slots k ≡ Some (get_or slots k d)

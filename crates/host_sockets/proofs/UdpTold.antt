@@ -7,8 +7,9 @@ use Rattle.udp_table.specs.declared.ends.UdpEnds.{UdpEnds}
 use Rattle.udp_table.specs.Table.{bound_ends}
 use Rattle.udp_table.specs.Table.{takes_in as row_takes, end_in, local_in as row_local}
 use Rattle.host_sockets.specs.Arriving.{takes_in}
-use Rattle.host_sockets.specs.inside.Bindings.{ends_of_slot, ends_of_slots}
-use Rattle.host_sockets.specs.Udp.{local_in, udp_end}
+use Rattle.udp_slots.specs.Bindings.{ends_of_slot, ends_of_slots}
+use Rattle.udp_slots.specs.Slots.{local_in}
+use Rattle.host_sockets.specs.Udp.{udp_end}
 use Rattle.host_sockets.specs.TcpSocket.{bound_end}
 
 pub told_set : (slots : List (Option UdpState)) (k : ℕ) (slot : Option UdpState) → set (ends_of_slots slots) k (ends_of_slot slot) ≡ ends_of_slots (set slots k slot)

@@ -1,7 +1,7 @@
 -- the arrival of a packet at a host's sockets (RFC 768; RFC 9293, section 3.10.7)
 use Rattle.std.specs.Prelude.{ℕ, Bool, false, List, [], ◌∷◌, position, Option, Some, None, if◌then◌else◌}
 use Rattle.sim_base.specs.declared.act.Act.{Act}
-use Rattle.sim_base.specs.declared.act.Act.TheVariants.{Recv, SockFull, NoPort}
+use Rattle.sim_base.specs.declared.act.Act.TheVariants.{Recv, NoPort}
 use Rattle.sim_base.specs.declared.address.Addr.{Addr}
 use Rattle.sim_base.specs.declared.packet.Load.{Load}
 use Rattle.sim_base.specs.declared.packet.Load.TheVariants.{Udp, Tcp}
@@ -13,6 +13,7 @@ use Rattle.sock_tcp.specs.connection.Begin.{begin}
 use Rattle.sock_tcp.specs.connection.Arrival.{takes_packet}
 use Rattle.sock_tcp.specs.listener.Listen.{Listen, hears, takes_word, asks_in, load_header}
 use Rattle.host_wants.specs.Wanted.{Wanted, sends, draws_word}
+use Rattle.udp_slots.specs.Slots.{taken_act}
 use Rattle.host_sockets.specs.TcpSocket.{TcpSocket, has_record, keeps_record, listens_to}
 use Rattle.host_sockets.specs.Sockets.{SocketsRecord}
 use Rattle.host_sockets.specs.TcpActs.{Acted, unacted, record_acts, acts_at}
@@ -23,13 +24,6 @@ use Rattle.host_sockets.specs.Udp.{udp_in, with_udp}
 abbrev pub takes_in : Addr → Addr → Option UdpState → Bool
 takes_in from to None = false
 takes_in from to (Some u) = takes from to u
-
-abbrev pub taken_act : Bool → Act
-taken_act taken = if taken then Recv else SockFull
-
-abbrev pub slot_arrives : Addr → List ℕ → Option UdpState → Act × Option UdpState
-slot_arrives from bytes None = (NoPort, None)
-slot_arrives from bytes (Some u) = (taken_act (arrive from bytes u).0, Some (arrive from bytes u).1)
 
 abbrev pub datagram_in : Addr → List ℕ → ℕ → Option UdpState → SocketsRecord → Act × SocketsRecord
 datagram_in from bytes k None t = (NoPort, t)

@@ -2,25 +2,19 @@
 use Rattle.std.specs.Prelude.{ℕ, Option, Some, None, Result, Ok, Err}
 use Rattle.sim_base.specs.declared.address.Addr.{Addr}
 use Rattle.sim_base.specs.declared.errno.Errno.{Errno}
-use Rattle.sim_base.specs.declared.errno.Errno.TheVariants.{Ebadf, Enotconn}
+use Rattle.sim_base.specs.declared.errno.Errno.TheVariants.{Enotconn}
 use Rattle.sim_base.specs.declared.time.Time.{Time}
-use Rattle.sim_base.specs.Addresses.{any, at_port}
-use Rattle.sim_base.specs.Refusals.{◌>>=◌, or_refuse}
+use Rattle.sim_base.specs.Refusals.{◌>>=◌}
 use Rattle.sock_tcp.specs.connection.Tcb.{Tcb}
-use Rattle.sock_udp.specs.Socket.{UdpState}
 use Rattle.host_wants.specs.declared.error.Refusal.{Refusal}
 use Rattle.host_wants.specs.declared.error.Refusal.TheVariants as refusal
 use Rattle.host_wants.specs.Wanted.{Wanted}
+use Rattle.udp_slots.specs.Slots.{end_or_none, udp_name_in, udp_peer_in}
 use Rattle.host_sockets.specs.TcpSocket.{kept_error}
 use Rattle.host_sockets.specs.Sockets.{SocketsRecord, tcp_at}
 use Rattle.host_sockets.specs.TcpActs.{acts_at}
 use Rattle.host_sockets.specs.Connecting.{error_takes}
 use Rattle.host_sockets.specs.Udp.{udp_in}
-
--- an unbound socket is at 0.0.0.0:0
-abbrev pub end_or_none : Option Addr → Addr
-end_or_none None = at_port any 0
-end_or_none (Some at) = at
 
 -- the own end of a record is the socket's, else what it is bound to
 abbrev pub name_in : Option Tcb → Option Addr → Addr
@@ -37,11 +31,6 @@ tcp_name k t = do
   s ← tcp_at k t
   Ok (name_in s.tcb s.bound)
 
-abbrev pub udp_name_in : Option UdpState → Result Addr Refusal
-udp_name_in socket = do
-  u ← or_refuse socket (refusal.Errno Ebadf)
-  Ok (end_or_none u.local)
-
 abbrev pub udp_name : ℕ → SocketsRecord → Result Addr Refusal
 udp_name k t = udp_name_in (udp_in k t)
 
@@ -50,11 +39,6 @@ abbrev pub tcp_peer : ℕ → SocketsRecord → Result Addr Refusal
 tcp_peer k t = do
   s ← tcp_at k t
   peer_in s.tcb
-
-abbrev pub udp_peer_in : Option UdpState → Result Addr Refusal
-udp_peer_in socket = do
-  u ← or_refuse socket (refusal.Errno Ebadf)
-  or_refuse u.peer (refusal.Errno Enotconn)
 
 abbrev pub udp_peer : ℕ → SocketsRecord → Result Addr Refusal
 udp_peer k t = udp_peer_in (udp_in k t)

@@ -1,7 +1,7 @@
 -- what sockets are ready for, by the bits of poll(2), and how often they became it
 use Rattle.std.specs.Prelude.{ℕ, slice_get, Option, Some, None}
 use Rattle.host_fds.specs.declared.rises.Rises.{Rises}
-use Rattle.sock_udp.specs.Socket.{UdpState, ready}
+use Rattle.udp_slots.specs.Slots.{udp_ready_in}
 pub use Rattle.host_sockets.specs.Rises.{ready_of}
 use Rattle.host_sockets.specs.Rises.{bits_of, rises_at}
 use Rattle.host_sockets.specs.TcpSocket.{TcpSocket}
@@ -22,10 +22,6 @@ seen_in (Some s) = bits_of s
 
 abbrev pub tcp_seen : ℕ → SocketsRecord → ℕ
 tcp_seen k t = seen_in (slice_get t.tcp k)
-
-abbrev pub udp_ready_in : Option UdpState → ℕ
-udp_ready_in None = 0
-udp_ready_in (Some u) = ready u
 
 abbrev pub udp_ready : ℕ → SocketsRecord → ℕ
 udp_ready k t = udp_ready_in (udp_in k t)

@@ -1,19 +1,19 @@
 -- the calls on UDP sockets, beside those of a socket alone: which sockets it has around it
-use Rattle.std.specs.Prelude.{ℕ, Bool, not, ◌||◌, nat_lt, List, ◌∷◌, length, take, slice_get, slice_set, Option, Some, None, is_some, is_none, Result, Ok, Err, []}
+use Rattle.std.specs.Prelude.{ℕ, Bool, List, slice_get, slice_set, Option, Some, None, is_some, is_none, Result, Ok}
 use Rattle.std.specs.List.{flat_map, position_or_len}
 use Rattle.sim_base.specs.declared.address.Ip.{Ip}
 use Rattle.sim_base.specs.declared.address.Addr.{Addr}
-use Rattle.sim_base.specs.declared.errno.Errno.TheVariants.{Ebadf, Emsgsize, Edestaddrreq}
+use Rattle.sim_base.specs.declared.errno.Errno.TheVariants.{Ebadf}
 use Rattle.sim_base.specs.declared.packet.Packet.{Packet}
-use Rattle.sim_base.specs.Packet.{max_datagram}
 use Rattle.sim_base.specs.Addresses.{Surroundings}
-use Rattle.sim_base.specs.Refusals.{refuse_if, or_refuse, ◌>>=◌, ◌>>◌}
+use Rattle.sim_base.specs.Refusals.{or_refuse, ◌>>=◌}
 use Rattle.host_fds.specs.Rises.{no_rises}
 use Rattle.sock_udp.specs.declared.datagram.Datagram.{Datagram}
 use Rattle.sock_udp.specs.Socket.{UdpState, new_socket, bind, connect, send}
 use Rattle.host_wants.specs.declared.error.Refusal.{Refusal}
 use Rattle.host_wants.specs.declared.error.Refusal.TheVariants as refusal
-use Rattle.host_wants.specs.Refusals.{by_errno, waits_if}
+use Rattle.host_wants.specs.Refusals.{by_errno}
+use Rattle.udp_slots.specs.Slots.{fits_in, local_in, oldest_datagram, only_state, recv_asked_in}
 use Rattle.host_sockets.specs.TcpSocket.{bound_end}
 use Rattle.host_sockets.specs.Rises.{udp_glance, moved_at}
 use Rattle.host_sockets.specs.Sockets.{SocketsRecord, put_at}
@@ -48,11 +48,6 @@ new_udp t = (udp_place t, put_udp_at (udp_place t) new_socket t)
 unfoldable pub closes_udp : ℕ → SocketsRecord → SocketsRecord
 closes_udp k t = record t { udp = slice_set t.udp k None }
 
--- what the UDP sockets are bound to
-abbrev pub local_in : Option UdpState → Option Addr
-local_in None = None
-local_in (Some u) = u.local
-
 abbrev pub udp_end : Option UdpState → List Addr
 udp_end socket = bound_end (local_in socket)
 
@@ -72,10 +67,6 @@ acted_udp act k socket t = do
 abbrev pub udp_acts : {A : Type 0} → (UdpState → Result (A × UdpState) Refusal) → ℕ → SocketsRecord → Result (A × SocketsRecord) Refusal
 udp_acts act k t = acted_udp act k (udp_in k t) t
 
-abbrev pub only_state : Result UdpState Refusal → Result (Unit {0} × UdpState) Refusal
-only_state (Ok u) = Ok (tt, u)
-only_state (Err r) = Err r
-
 -- bind(2)
 unfoldable pub binds_udp : List Ip → ℕ → Addr → SocketsRecord → Result (Unit {0} × SocketsRecord) Refusal
 binds_udp hosts k at t = udp_acts (λ u. only_state (by_errno (bind (udp_around hosts t) at u))) k t
@@ -88,30 +79,11 @@ connects_udp hosts k to t = udp_acts (λ u. only_state (by_errno (connect (udp_a
 unfoldable pub sends_udp : List Ip → ℕ → List ℕ → Option Addr → SocketsRecord → Result (Packet × SocketsRecord) Refusal
 sends_udp hosts k bytes to t = udp_acts (λ u. by_errno (send (udp_around hosts t) bytes to u)) k t
 
--- what refuses a send of so many bytes before they and an address, if one is given, are read
-abbrev pub fits_in : ℕ → Bool → Option UdpState → Result (Unit {0}) Refusal
-fits_in count given socket = do
-  u ← or_refuse socket (refusal.Errno Ebadf)
-  refuse_if (nat_lt max_datagram count) (refusal.Errno Emsgsize)
-  refuse_if (not (given || is_some u.peer)) (refusal.Errno Edestaddrreq)
-
 abbrev pub udp_fits : ℕ → ℕ → Bool → SocketsRecord → Result (Unit {0}) Refusal
 udp_fits k count given t = fits_in count given (udp_in k t)
 
--- a read waits until a datagram does
-abbrev pub recv_asked_in : Option UdpState → Result (Unit {0}) Refusal
-recv_asked_in socket = do
-  u ← or_refuse socket (refusal.Errno Ebadf)
-  waits_if (not (nat_lt 0 (length u.waiting)))
-
 abbrev pub recv_udp_asked : ℕ → SocketsRecord → Result (Unit {0}) Refusal
 recv_udp_asked k t = recv_asked_in (udp_in k t)
-
--- recv(2) of so many bytes: the oldest datagram, cut there; where none waits the call does
-abbrev pub oldest_datagram : UdpState → List Datagram → ℕ → Result (Datagram × UdpState) Refusal
-oldest_datagram u [] count = Err (refusal.Wait None)
-oldest_datagram u (datagram ∷ behind) count =
-    Ok (record { from = datagram.from; bytes = take count datagram.bytes }, record u { waiting = behind })
 
 unfoldable pub receives_udp : ℕ → ℕ → SocketsRecord → Result (Datagram × SocketsRecord) Refusal
 receives_udp k count t = udp_acts (λ u. oldest_datagram u u.waiting count) k t

@@ -1,5 +1,4 @@
 -- what the index of sockets keeps: it passes none by which a look at each socket would find
-pub mod Bindings
 pub mod Ends
 pub mod Given
 pub mod Indexing
@@ -7,5 +6,4 @@ pub mod Lookup
 pub mod Made
 pub mod Told
 pub mod Accepting
-pub mod Udp
 pub mod StandsFor

@@ -27,7 +27,6 @@ mod tcp_close;
 mod tcp_sock;
 mod turned;
 mod udp;
-mod udp_slot;
 mod udp_socks;
 
 pub use glance::Glance;

@@ -3,13 +3,8 @@
 use crate::sockets::Sockets;
 use crate::tcp_sock::TcpSock;
 use host_wants::Refusal;
-use sim_base::{Addr, Errno, Ip};
-
-/// The end of an unbound socket.
-pub(crate) const NOWHERE: Addr = Addr {
-    ip: Ip::ANY,
-    port: 0,
-};
+use sim_base::{Addr, Errno};
+use udp_slots::NOWHERE;
 
 impl TcpSock {
     ghost use Rattle.std.specs.Prelude.{◌≡◌};

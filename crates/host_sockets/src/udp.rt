@@ -4,10 +4,10 @@ use crate::glance::slot_glance;
 use crate::ports::at_port;
 use crate::rises::put_none;
 use crate::sockets::Sockets;
-use crate::udp_slot;
 use host_wants::{CallError, Refusal};
 use sim_base::{Act, Addr, Around, Book, Errno, Ip, NoMemory, Packet};
 use sock_udp::{Datagram, UdpSock};
+use udp_slots::slot as udp_slot;
 
 impl Sockets {
     ghost use Rattle.std.specs.Prelude.{◌≡◌, ◌≤◌, length, position, Some, IfOk, OnOk};

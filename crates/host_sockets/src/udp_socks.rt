@@ -2,12 +2,12 @@
 
 ghost use Rattle.std.proofs.Props.{props};
 ghost use Rattle.std.specs.Prelude.{◌≡◌};
-ghost use Rattle.host_sockets.specs.inside.Bindings.{ends_of_slots};
+ghost use Rattle.udp_slots.specs.Bindings.{ends_of_slots};
 
-use crate::udp_slot;
 use sim_base::{Addr, Errno, NoMemory};
 use sock_udp::UdpSock;
 use std::alloc::Global;
+use udp_slots::slot as udp_slot;
 use udp_table::UdpTable;
 
 /// The sockets, and the table of what they are bound and connected to, by which they are found.

@@ -5,7 +5,8 @@ use Rattle.std.proofs.Common.{Bool, Err, IfSome, List, None, Ok, Option, Result,
 use Rattle.std.specs.List.{AllByRecursion}
 use Rattle.host_sockets.specs.Arriving.{arrives, arrives_by, datagram_arrives, datagram_at, datagram_in, takes_in}
 use Rattle.host_sockets.specs.Sockets.{SocketsRecord}
-use Rattle.host_sockets.specs.Udp.{acted_udp, binds_udp, closes_udp, connects_udp, new_udp, oldest_datagram, only_state, receives_udp, sends_udp, socket_in, udp_acts, udp_around, udp_in, udp_place, with_udp}
+use Rattle.udp_slots.specs.Slots.{oldest_datagram, only_state}
+use Rattle.host_sockets.specs.Udp.{acted_udp, binds_udp, closes_udp, connects_udp, new_udp, receives_udp, sends_udp, socket_in, udp_acts, udp_around, udp_in, udp_place, with_udp}
 use Rattle.host_wants.specs.Refusals.{by_errno}
 use Rattle.host_wants.specs.Wanted.{Wanted}
 use Rattle.host_wants.specs.declared.error.Refusal.{Refusal}

@@ -9,7 +9,7 @@ use Rattle.sock_udp.specs.Socket.{UdpState, is_bound_for, is_open_to, takes}
 use Rattle.sock_udp.specs.SocketLaws.{takes_meets}
 use Rattle.socket_laws.specs.Apart.{end_of, AreApart}
 use Rattle.socket_laws.specs.Histories.{SocketsAct, sockets_of}
-use Rattle.host_sockets.specs.Udp.{local_in}
+use Rattle.udp_slots.specs.Slots.{local_in}
 use Rattle.socket_laws.proofs.ApartActs.{bound_apart}
 
 -- a socket that takes a datagram is bound

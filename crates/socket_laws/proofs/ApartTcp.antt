@@ -24,7 +24,7 @@ use Rattle.host_sockets.specs.Accepting.{given_up, accepted, placed}
 use Rattle.host_sockets.specs.Alarms.{kept_timer, kept_expires, timer_expires, socket_expires, alarm_comes}
 use Rattle.host_sockets.specs.Binding.{bind_begun, bind_asked, end_to_use, listening, listen_begun, listen_asked}
 use Rattle.host_sockets.specs.Closing.{unheld, closes_in, closed, closes_tcp}
-use Rattle.host_sockets.specs.Udp.{local_in}
+use Rattle.udp_slots.specs.Slots.{local_in}
 use Rattle.socket_laws.specs.Apart.{AreApart, tcp_end, BoundApart}
 use Rattle.socket_laws.proofs.Apart.{Loses, apart_loses, loses_set, loses_put, IsFree, apart_set, first_of_ends, free_among, free_port_is_taken}
 

@@ -17,7 +17,8 @@ use Rattle.host_wants.specs.Refusals.{by_errno}
 use Rattle.host_sockets.specs.TcpSocket.{bound_end}
 use Rattle.host_sockets.specs.Sockets.{SocketsRecord}
 use Rattle.host_sockets.specs.Arriving.{takes_in, datagram_in, datagram_at, datagram_arrives}
-use Rattle.host_sockets.specs.Udp.{socket_in, udp_in, with_udp, udp_place, new_udp, closes_udp, local_in, udp_end, udp_ends, udp_around, acted_udp, udp_acts, only_state, binds_udp, connects_udp, sends_udp, receives_udp, oldest_datagram}
+use Rattle.udp_slots.specs.Slots.{local_in, only_state, oldest_datagram}
+use Rattle.host_sockets.specs.Udp.{socket_in, udp_in, with_udp, udp_place, new_udp, closes_udp, udp_end, udp_ends, udp_around, acted_udp, udp_acts, binds_udp, connects_udp, sends_udp, receives_udp}
 use Rattle.socket_laws.specs.Histories.{left_by}
 use Rattle.socket_laws.specs.Apart.{AreApart, BoundApart}
 use Rattle.socket_laws.proofs.Apart.{apart_loses, loses_set, loses_unbound, loses_put, IsFree, apart_set, first_of_ends, free_among}

@@ -18,7 +18,8 @@ use Rattle.host_wants.specs.Refusals.{by_errno}
 use Rattle.host_wants.specs.Wanted.{Wanted, nothing_wanted}
 use Rattle.host_sockets.specs.TcpSocket.{TcpSocket, with_bound}
 use Rattle.host_sockets.specs.Sockets.{SocketsRecord, no_sockets, changes_in, changes_at, tcp_ends, bound_ends}
-use Rattle.host_sockets.specs.Udp.{local_in, udp_in, udp_around, with_udp, acted_udp, only_state, binds_udp, connects_udp, sends_udp}
+use Rattle.udp_slots.specs.Slots.{local_in, only_state}
+use Rattle.host_sockets.specs.Udp.{udp_in, udp_around, with_udp, acted_udp, binds_udp, connects_udp, sends_udp}
 use Rattle.host_sockets.specs.Binding.{bind_begins, bind_begun, bind_asked, binds_tcp, end_to_use, bound_to_use, listening, listen_begun, listen_asked, listens_tcp}
 use Rattle.host_sockets.specs.Connecting.{connect_asked}
 use Rattle.socket_laws.specs.Apart.{end_of, end_at, tcp_end, AreHere, BoundHere}

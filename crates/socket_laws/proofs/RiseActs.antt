@@ -18,7 +18,8 @@ use Rattle.host_wants.specs.Wanted.{Wanted}
 use Rattle.host_sockets.specs.TcpSocket.{TcpSocket, with_bound, has_record}
 use Rattle.host_sockets.specs.Sockets.{SocketsRecord, tcb_at, with_tcp, changes_at, changes_in}
 use Rattle.host_sockets.specs.TcpActs.{Acted, record_acts, acts_in, acts_at}
-use Rattle.host_sockets.specs.Udp.{udp_in, udp_around, with_udp, acted_udp, udp_acts, only_state, oldest_datagram, closes_udp, binds_udp, connects_udp, sends_udp, receives_udp}
+use Rattle.udp_slots.specs.Slots.{only_state, oldest_datagram}
+use Rattle.host_sockets.specs.Udp.{udp_in, udp_around, with_udp, acted_udp, udp_acts, closes_udp, binds_udp, connects_udp, sends_udp, receives_udp}
 use Rattle.host_sockets.specs.Binding.{bind_asked, binds_tcp, listen_asked, listening, listens_tcp}
 use Rattle.host_sockets.specs.Connecting.{connect_asked, opens, connects, connects_taking, taking, error_takes, connect_waited, connect_answers, without_change}
 use Rattle.host_sockets.specs.Moving.{send_asked, count_taken, takes_written, sends_taking, recv_asked, bytes_given, gives_read, receives_taking, may_shut, shuts_tcp}

@@ -9,7 +9,8 @@ use Rattle.sim_base.specs.declared.address.Ip.{Ip}
 use Rattle.sim_base.specs.declared.address.Addr.{Addr}
 use Rattle.sock_udp.specs.Socket.{UdpState, or_else, address_and_destination, packet_between, send}
 use Rattle.host_wants.specs.Refusals.{by_errno}
-use Rattle.host_sockets.specs.Udp.{socket_in, udp_in, with_udp, local_in, udp_around, acted_udp, sends_udp}
+use Rattle.udp_slots.specs.Slots.{local_in}
+use Rattle.host_sockets.specs.Udp.{socket_in, udp_in, with_udp, udp_around, acted_udp, sends_udp}
 use Rattle.tcp_laws.proofs.Tests.{by_test}
 use Rattle.host_wants.specs.declared.error.Refusal.{Refusal}
 use Rattle.host_wants.specs.declared.error.Refusal.TheVariants as refusal

@@ -5,7 +5,7 @@ use Rattle.sim_base.specs.declared.address.Addr.{Addr}
 use Rattle.sim_base.specs.Addresses.{is_local, meets}
 use Rattle.host_sockets.specs.TcpSocket.{TcpSocket}
 use Rattle.host_sockets.specs.Sockets.{SocketsRecord}
-use Rattle.host_sockets.specs.Udp.{local_in}
+use Rattle.udp_slots.specs.Slots.{local_in}
 
 -- what the socket with a number is bound to
 abbrev pub end_of : {A : Type 0} → (A → Option Addr) → Option A → Option Addr

@@ -23,7 +23,8 @@ ghost use Rattle.host_sockets.specs.Sockets.{SocketsRecord};
 ghost use Rattle.host_sockets.specs.Records.{records_of};
 ghost use Rattle.host_sockets.specs.Streams.{pair_order, streams_of};
 ghost use Rattle.socket_laws.specs.Told.{is_between, is_of, told_of};
-ghost use Rattle.host_sockets.specs.Udp.{local_in, udp_in, sends_udp};
+ghost use Rattle.udp_slots.specs.Slots.{local_in};
+ghost use Rattle.host_sockets.specs.Udp.{udp_in, sends_udp};
 ghost use Rattle.host_sockets.specs.TcpSocket.{TcpSocket, listens_to};
 ghost use Rattle.socket_laws.specs.Waiting.{ListenAct, listen_of};
 

@@ -18,7 +18,8 @@ use Rattle.host_wants.specs.Wanted.{Wanted, nothing_wanted}
 use Rattle.host_sockets.specs.Sockets.{SocketsRecord, no_sockets}
 use Rattle.host_sockets.specs.Connecting.{source_end, connect_asked}
 use Rattle.host_sockets.specs.Records.{records_of}
-use Rattle.host_sockets.specs.Udp.{socket_in, udp_in, with_udp, local_in, udp_around, acted_udp, sends_udp}
+use Rattle.udp_slots.specs.Slots.{local_in}
+use Rattle.host_sockets.specs.Udp.{socket_in, udp_in, with_udp, udp_around, acted_udp, sends_udp}
 use Rattle.socket_laws.specs.Apart.{end_of}
 use Rattle.socket_laws.specs.Histories.{SocketsAct, sockets_acted, sockets_after}
 use Rattle.socket_laws.specs.Histories.SocketsAct.{make_udp, bind_udp, connect_udp, send_udp, recv_udp, close_udp, make_tcp, bind_tcp, listen_tcp, accept_tcp, connect_tcp, connect_again, send_tcp, recv_tcp, shut_tcp, take_error, close_tcp, arrival, alarm, elsewhere}

@@ -1,6 +1,7 @@
 use Rattle.std.proofs.Common.{◌≡◌, subst, ap, arith}
 use Rattle.std.proofs.lemmas.Result.{IfOk-weaker}
-use Rattle.host_sockets.specs.Arriving.{datagram_in, slot_arrives}
+use Rattle.udp_slots.specs.Slots.{slot_arrives}
+use Rattle.host_sockets.specs.Arriving.{datagram_in}
 use Rattle.host_sockets.specs.StandsFor.{Stand}
 use Rattle.host_sockets.proofs.Endings.{udp_act_ends}
 use Rattle.host_sockets.proofs.UdpTold.{told_then}

@@ -1,7 +1,8 @@
 use Rattle.std.proofs.Common.{◌≡◌, Some, ap, arith}
 use Rattle.sock_udp.specs.Socket.{UdpState, bind, bound_at}
 use Rattle.host_wants.specs.Refusals.{by_errno}
-use Rattle.host_sockets.specs.Udp.{udp_around, only_state, binds_udp}
+use Rattle.udp_slots.specs.Slots.{only_state}
+use Rattle.host_sockets.specs.Udp.{udp_around, binds_udp}
 use Rattle.host_sockets.proofs.Endings.{udp_act_ends}
 use Rattle.host_sockets.proofs.UdpTold.{told_then}
 use Rattle.host_sockets.proofs.UdpSlots.{slot_same, becomes_udp, refused_udp}

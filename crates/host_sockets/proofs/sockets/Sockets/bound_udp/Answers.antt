@@ -1,6 +1,6 @@
 use Rattle.std.proofs.Common.{Option, is_some, ap, ◌∙◌, arith}
 use Rattle.sock_udp.specs.Socket.{UdpState}
-use Rattle.host_sockets.specs.Udp.{local_in}
+use Rattle.udp_slots.specs.Slots.{local_in}
 use Rattle.host_sockets.proofs.UdpSlots.{told_udp, told_no_udp}
 use Rattle.host_sockets.proofs.sockets.Sockets.bound_udp.Goals as goal
 

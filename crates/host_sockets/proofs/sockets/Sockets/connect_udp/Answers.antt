@@ -1,7 +1,8 @@
 use Rattle.std.proofs.Common.{◌<◌, length, ap, arith}
 use Rattle.sock_udp.specs.Socket.{UdpState, connect, connected}
 use Rattle.host_wants.specs.Refusals.{by_errno}
-use Rattle.host_sockets.specs.Udp.{udp_around, only_state, connects_udp}
+use Rattle.udp_slots.specs.Slots.{only_state}
+use Rattle.host_sockets.specs.Udp.{udp_around, connects_udp}
 use Rattle.host_sockets.proofs.Endings.{udp_act_ends}
 use Rattle.host_sockets.proofs.UdpTold.{told_then}
 use Rattle.host_sockets.proofs.UdpSlots.{becomes_udp, refused_udp, slot_same}

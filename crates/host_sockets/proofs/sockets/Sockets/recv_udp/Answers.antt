@@ -1,6 +1,7 @@
 use Rattle.std.proofs.Common.{ap, arith}
 use Rattle.sock_udp.specs.Socket.{UdpState}
-use Rattle.host_sockets.specs.Udp.{oldest_datagram, receives_udp}
+use Rattle.udp_slots.specs.Slots.{oldest_datagram}
+use Rattle.host_sockets.specs.Udp.{receives_udp}
 use Rattle.host_sockets.proofs.Endings.{udp_act_ends}
 use Rattle.host_sockets.proofs.UdpTold.{told_then}
 use Rattle.host_sockets.proofs.UdpSlots.{becomes_udp, refused_udp}

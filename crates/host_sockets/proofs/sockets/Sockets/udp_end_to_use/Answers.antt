@@ -3,7 +3,8 @@ use Rattle.std.specs.List.{flat_map}
 use Rattle.sim_base.specs.declared.address.Addr.{Addr}
 use Rattle.sim_base.specs.Addresses.{any, at_port, at_free_port, least_free_port}
 use Rattle.sock_udp.specs.Socket.{UdpState, or_else}
-use Rattle.host_sockets.specs.Udp.{local_in, udp_end, udp_ends}
+use Rattle.udp_slots.specs.Slots.{local_in}
+use Rattle.host_sockets.specs.Udp.{udp_end, udp_ends}
 use Rattle.host_sockets.proofs.UdpSlots.{told_udp, told_no_udp}
 use Rattle.host_sockets.proofs.sockets.Sockets.udp_end_to_use.Goals as goal
 

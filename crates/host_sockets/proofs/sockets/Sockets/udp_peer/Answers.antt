@@ -1,5 +1,5 @@
 use Rattle.std.proofs.Common.{◌∙◌, arith}
-use Rattle.host_sockets.specs.Names.{udp_peer_in}
+use Rattle.udp_slots.specs.Slots.{udp_peer_in}
 use Rattle.host_sockets.proofs.UdpSlots.{told_udp, told_no_udp}
 use Rattle.host_sockets.proofs.sockets.Sockets.udp_peer.Goals as goal
 

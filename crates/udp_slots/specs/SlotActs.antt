@@ -7,7 +7,7 @@ use Rattle.host_wants.specs.declared.error.CallError.{CallError}
 use Rattle.host_wants.specs.declared.error.CallError.TheVariants as error
 use Rattle.host_wants.specs.declared.error.Refusal.{Refusal}
 use Rattle.host_wants.specs.declared.error.Refusal.TheVariants as refusal
-use Rattle.host_sockets.specs.Udp.{oldest_datagram}
+use Rattle.udp_slots.specs.Slots.{oldest_datagram}
 
 -- what the code does in a socket's place
 abbrev pub SlotDoes : {A : Type 0} → (UdpState → Result (A × UdpState) Refusal) → Option UdpState → Option UdpState → Result A CallError → Type 0

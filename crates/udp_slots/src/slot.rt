@@ -3,22 +3,24 @@
 ghost use Rattle.std.specs.Prelude.{◌≡◌, ◌≤◌, length, IfOk};
 ghost use Rattle.sock_udp.specs.Socket.{bound_at, connected, sent};
 ghost use Rattle.host_wants.specs.Refusals.{by_errno};
-ghost use Rattle.host_sockets.specs.Udp.{only_state, local_in, fits_in, recv_asked_in, oldest_datagram};
-ghost use Rattle.host_sockets.specs.inside.Udp.{SlotDoes, GivesOldest};
-ghost use Rattle.host_sockets.specs.Arriving.{slot_arrives};
-ghost use Rattle.host_sockets.specs.inside.Bindings.{ends_of_slot};
-ghost use Rattle.host_sockets.specs.Names.{udp_name_in, udp_peer_in};
-ghost use Rattle.host_sockets.specs.Ready.{udp_ready_in};
+ghost use Rattle.udp_slots.specs.Slots.{only_state, local_in, fits_in, recv_asked_in, oldest_datagram, slot_arrives, udp_name_in, udp_peer_in, udp_ready_in};
+ghost use Rattle.udp_slots.specs.SlotActs.{SlotDoes, GivesOldest};
+ghost use Rattle.udp_slots.specs.Bindings.{ends_of_slot};
 
-use crate::names::NOWHERE;
 use host_wants::{CallError, Refusal};
 use sim_base::{Act, Addr, Around, Bytes, Errno, Ip, MAX_DATAGRAM, NoMemory, Packet};
 use sock_udp::{Datagram, Received, UdpError, UdpSock};
 use std::alloc::Global;
 use udp_table::UdpEnds;
 
+/// The end of an unbound socket.
+pub const NOWHERE: Addr = Addr {
+    ip: Ip::ANY,
+    port: 0,
+};
+
 /// What a socket is bound and connected to.
-pub(crate) fn ends_of(sock: &UdpSock) -> UdpEnds
+pub fn ends_of(sock: &UdpSock) -> UdpEnds
     ensures local { result.local ≡ sock.now.local }
     ensures peer { result.peer ≡ sock.now.peer }
 {
@@ -29,7 +31,7 @@ pub(crate) fn ends_of(sock: &UdpSock) -> UdpEnds
 }
 
 /// The same of the socket at a place, if there is one.
-pub(crate) fn ends(slot: &Option<UdpSock>) -> Option<UdpEnds>
+pub fn ends(slot: &Option<UdpSock>) -> Option<UdpEnds>
     ensures { result ≡ ends_of_slot slot.now }
 {
     match slot {
@@ -39,7 +41,7 @@ pub(crate) fn ends(slot: &Option<UdpSock>) -> Option<UdpEnds>
 }
 
 /// What a socket is bound to.
-pub(crate) fn local(slot: &Option<UdpSock>) -> Option<Addr>
+pub fn local(slot: &Option<UdpSock>) -> Option<Addr>
     ensures { result ≡ local_in slot.now }
 {
     match slot {
@@ -49,7 +51,7 @@ pub(crate) fn local(slot: &Option<UdpSock>) -> Option<Addr>
 }
 
 /// `bind(2)` at an address of which this is left.
-pub(crate) fn bind(
+pub fn bind(
     slot: &mut Option<UdpSock>,
     around: &Around,
     ip: Ip,
@@ -67,7 +69,7 @@ pub(crate) fn bind(
 }
 
 /// `connect(2)` of a socket that has this end, or would have it.
-pub(crate) fn connect(
+pub fn connect(
     slot: &mut Option<UdpSock>,
     around: &Around,
     own: Option<Addr>,
@@ -86,7 +88,7 @@ pub(crate) fn connect(
 
 /// `send(2)`, and `sendto(2)` where an address is given, of a socket that has this end, or would have
 /// it.
-pub(crate) fn send(
+pub fn send(
     slot: &mut Option<UdpSock>,
     around: &Around,
     own: Option<Addr>,
@@ -125,11 +127,7 @@ fn take_oldest(sock: &mut UdpSock, alloc: Global, count: usize) -> Result<Datagr
 }
 
 /// `recv(2)` of so many bytes.
-pub(crate) fn recv(
-    slot: &mut Option<UdpSock>,
-    alloc: Global,
-    count: usize,
-) -> Result<Datagram, CallError>
+pub fn recv(slot: &mut Option<UdpSock>, alloc: Global, count: usize) -> Result<Datagram, CallError>
     ensures does { SlotDoes (λ u. oldest_datagram u u.waiting count) slot.old slot.new result }
     ensures at_most { IfOk result (λ datagram. length datagram.bytes ≤ count) }
 {
@@ -140,7 +138,7 @@ pub(crate) fn recv(
 }
 
 /// A datagram arrives at a socket.
-pub(crate) fn arrive(slot: &mut Option<UdpSock>, from: Addr, bytes: &[u8]) -> Result<Act, NoMemory>
+pub fn arrive(slot: &mut Option<UdpSock>, from: Addr, bytes: &[u8]) -> Result<Act, NoMemory>
     ensures { IfOk result (λ act. (act, slot.new) ≡ slot_arrives from bytes.now slot.old) }
 {
     match slot {
@@ -156,7 +154,7 @@ pub(crate) fn arrive(slot: &mut Option<UdpSock>, from: Addr, bytes: &[u8]) -> Re
 }
 
 /// What refuses a send of so many bytes, before they and an address are read.
-pub(crate) fn fits(slot: &Option<UdpSock>, count: usize, given: bool) -> Result<(), Refusal>
+pub fn fits(slot: &Option<UdpSock>, count: usize, given: bool) -> Result<(), Refusal>
     ensures { result ≡ fits_in count given slot.now }
 {
     match slot {
@@ -174,7 +172,7 @@ pub(crate) fn fits(slot: &Option<UdpSock>, count: usize, given: bool) -> Result<
 }
 
 /// What refuses a read.
-pub(crate) fn recv_asked(slot: &Option<UdpSock>) -> Result<(), Refusal>
+pub fn recv_asked(slot: &Option<UdpSock>) -> Result<(), Refusal>
     ensures { result ≡ recv_asked_in slot.now }
 {
     match slot {
@@ -190,7 +188,7 @@ pub(crate) fn recv_asked(slot: &Option<UdpSock>) -> Result<(), Refusal>
 }
 
 /// The own end of a socket.
-pub(crate) fn name(slot: &Option<UdpSock>) -> Result<Addr, Refusal>
+pub fn name(slot: &Option<UdpSock>) -> Result<Addr, Refusal>
     ensures { result ≡ udp_name_in slot.now }
 {
     match slot {
@@ -200,7 +198,7 @@ pub(crate) fn name(slot: &Option<UdpSock>) -> Result<Addr, Refusal>
 }
 
 /// The end that a socket is connected to.
-pub(crate) fn peer(slot: &Option<UdpSock>) -> Result<Addr, Refusal>
+pub fn peer(slot: &Option<UdpSock>) -> Result<Addr, Refusal>
     ensures { result ≡ udp_peer_in slot.now }
 {
     match slot {
@@ -213,7 +211,7 @@ pub(crate) fn peer(slot: &Option<UdpSock>) -> Result<Addr, Refusal>
 }
 
 /// What a socket is ready for.
-pub(crate) fn ready(slot: &Option<UdpSock>) -> u16
+pub fn ready(slot: &Option<UdpSock>) -> u16
     ensures { result ≡ udp_ready_in slot.now }
 {
     match slot {
