@@ -4,7 +4,7 @@
 
 int main(int argc, char **argv)
 {
-    char bytes[8] = {0};
+    uint32_t words[2] = {0, 0};
     struct sockaddr_in to;
     struct timespec second = {1, 0};
     struct line line;
@@ -21,11 +21,11 @@ int main(int argc, char **argv)
         int64_t sent = now();
         struct pollfd entry = {fd, POLLIN, 0};
         uint32_t got = count;
-        memcpy(bytes, &i, sizeof i);
-        send(fd, bytes, sizeof bytes, 0);
+        words[0] = i;
+        send(fd, words, sizeof words, 0);
         while (got != i && ppoll(&entry, 1, &second) > 0) {
-            recv(fd, bytes, sizeof bytes, 0);
-            memcpy(&got, bytes, sizeof got);
+            recv(fd, words, sizeof words, 0);
+            got = words[0];
         }
         line.size = 0;
         add_number(&line, i);

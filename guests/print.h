@@ -48,17 +48,33 @@ static inline void write_line(struct line *line)
 
 static inline void add(struct line *line, const char *text)
 {
+    size_t size = line->size;
     for (; *text; text++) {
-        if (line->size == sizeof line->text)
-            write_line(line);
-        line->text[line->size++] = *text;
+        if (size == sizeof line->text) {
+            write(1, line->text, size);
+            size = 0;
+        }
+        line->text[size++] = *text;
     }
+    line->size = size;
 }
 
+/* in decimal digits, which are written in their places at once where 32 bits are enough and the line has room for any such number */
 static inline void add_number(struct line *line, int64_t value)
 {
     char text[21];
-    add(line, decimal(text, value));
+    uint32_t n = (uint32_t)value;
+    size_t at = line->size + 1;
+    if (value >> 32 || at + 9 > sizeof line->text) {
+        add(line, decimal(text, value));
+        return;
+    }
+    for (uint32_t rest = n; rest >= 10; rest /= 10)
+        at++;
+    line->size = at;
+    do
+        line->text[--at] = (char)('0' + n % 10);
+    while (n /= 10);
 }
 
 /* a decimal number, and the place behind it */
