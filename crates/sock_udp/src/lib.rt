@@ -2,10 +2,12 @@
 #![tactic(auto)]
 
 mod datagram;
+mod ends;
 mod error;
 mod filters;
 mod socket;
 
 pub use datagram::{Datagram, Received};
+pub use ends::UdpEnds;
 pub use error::UdpError;
 pub use socket::UdpSock;

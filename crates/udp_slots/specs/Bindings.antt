@@ -1,7 +1,7 @@
 -- what the table of UDP sockets has of each
 use Rattle.std.specs.Prelude.{List, Option, Some, None, map}
 use Rattle.sock_udp.specs.Socket.{UdpState}
-use Rattle.udp_table.specs.declared.ends.UdpEnds.{UdpEnds}
+use Rattle.sock_udp.specs.declared.ends.UdpEnds.{UdpEnds}
 
 abbrev pub ends_of_slot : Option UdpState → Option UdpEnds
 ends_of_slot None = None

@@ -9,9 +9,8 @@ ghost use Rattle.udp_slots.specs.Bindings.{ends_of_slot};
 
 use host_wants::{CallError, Refusal};
 use sim_base::{Act, Addr, Around, Bytes, Errno, Ip, MAX_DATAGRAM, NoMemory, Packet};
-use sock_udp::{Datagram, Received, UdpError, UdpSock};
+use sock_udp::{Datagram, Received, UdpEnds, UdpError, UdpSock};
 use std::alloc::Global;
-use udp_table::UdpEnds;
 
 /// The end of an unbound socket.
 pub const NOWHERE: Addr = Addr {

@@ -10,7 +10,7 @@ use Rattle.number_sets.specs.Sets.{has}
 use Rattle.number_sets.specs.Bags.{Holds}
 use Rattle.number_sets.specs.Ports.{given_end, once}
 use Rattle.number_sets.proofs.PortsCounted.{holds_same}
-use Rattle.udp_table.specs.declared.ends.UdpEnds.{UdpEnds}
+use Rattle.sock_udp.specs.declared.ends.UdpEnds.{UdpEnds}
 use Rattle.udp_table.specs.declared.index.Index.{Index}
 use Rattle.udp_table.specs.Table.{local_in}
 use Rattle.udp_table.specs.inside.Indexing.{at_place, times, Finds, Changes, Indexes}

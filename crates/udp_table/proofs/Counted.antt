@@ -5,7 +5,7 @@ use Rattle.std.proofs.lemmas.List.Sums.{sum_by-cons, sum_by-append}
 use Rattle.sim_base.specs.declared.address.Addr.{Addr}
 use Rattle.number_sets.specs.Ports.{given_end, once, had}
 use Rattle.number_sets.proofs.PortsCounted.{counted_in}
-use Rattle.udp_table.specs.declared.ends.UdpEnds.{UdpEnds}
+use Rattle.sock_udp.specs.declared.ends.UdpEnds.{UdpEnds}
 use Rattle.udp_table.specs.Table.{local_in, end_in, bound_ends}
 use Rattle.udp_table.specs.inside.Indexing.{times, Changes}
 

@@ -12,7 +12,7 @@ use Rattle.sim_base.specs.Addresses.{any, is_same_ip, meets, is_taken, has_port,
 use Rattle.sim_base.specs.AddressLaws.{first_free_port_IsLeastFree, has_port_meets}
 use Rattle.sim_base.specs.Refusals.{◌>>=◌, ◌>>◌, refuse_if, or_refuse}
 use Rattle.sock_udp.specs.Socket.{end_left}
-use Rattle.udp_table.specs.declared.ends.UdpEnds.{UdpEnds}
+use Rattle.sock_udp.specs.declared.ends.UdpEnds.{UdpEnds}
 use Rattle.udp_table.specs.Table.{local_in, end_in, bound_ends}
 use Rattle.udp_table.specs.inside.Indexing.{at_place, meets_there, Finds, Notes}
 

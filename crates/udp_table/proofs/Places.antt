@@ -2,7 +2,7 @@
 use Rattle.std.proofs.Common.{◌≡◌, ◌≢◌, ℕ, zero, suc, ◌+◌, ◌<◌, ◌≤◌, List, [], ◌∷◌, ◌++◌, length, get_or, set, Bool, true, false, Option, Some, None, is_some, is_none, refl, sym, ap, subst, ◌∙◌, arith}
 use Rattle.std.specs.List.{position_or_len, sum_by}
 use Rattle.std.proofs.lemmas.List.Sums.{position_or_len_is, sum_by-set, sum_by_push}
-use Rattle.udp_table.specs.declared.ends.UdpEnds.{UdpEnds}
+use Rattle.sock_udp.specs.declared.ends.UdpEnds.{UdpEnds}
 use Rattle.udp_table.specs.inside.Indexing.{at_place, times, Changes}
 
 get_set : (places : List (Option UdpEnds)) (place : ℕ) (is : Option UdpEnds) → place < length places → get_or (set places place is) place None ≡ is

@@ -7,7 +7,7 @@ use Rattle.std.proofs.lemmas.List.Sums.{position_or_len_is}
 use Rattle.sim_base.specs.declared.address.Addr.{Addr}
 use Rattle.sim_base.specs.Addresses.{any, at_port}
 use Rattle.sock_udp.specs.Socket.{is_bound_for, is_open_to}
-use Rattle.udp_table.specs.declared.ends.UdpEnds.{UdpEnds}
+use Rattle.sock_udp.specs.declared.ends.UdpEnds.{UdpEnds}
 use Rattle.udp_table.specs.Table.{local_in, takes_in}
 use Rattle.udp_table.specs.inside.Indexing.{at_place, earlier}
 

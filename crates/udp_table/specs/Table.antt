@@ -3,7 +3,7 @@ use Rattle.std.specs.Prelude.{Bool, false, ◌&&◌, List, [], ◌∷◌, Option
 use Rattle.std.specs.List.{flat_map}
 use Rattle.sim_base.specs.declared.address.Addr.{Addr}
 use Rattle.sock_udp.specs.Socket.{is_bound_for, is_open_to}
-use Rattle.udp_table.specs.declared.ends.UdpEnds.{UdpEnds}
+use Rattle.sock_udp.specs.declared.ends.UdpEnds.{UdpEnds}
 
 -- what the socket at a place is bound to, if there is one
 abbrev pub local_in : Option UdpEnds → Option Addr

@@ -8,13 +8,7 @@ ghost use Rattle.udp_table.specs.Table.{local_in, end_in, takes_in};
 ghost use Rattle.udp_table.specs.inside.Indexing.{at_place};
 
 use sim_base::{Addr, Ip};
-
-/// What a UDP socket is bound to and connected to.
-#[derive(Clone, Copy, PartialEq, Eq)]
-pub struct UdpEnds {
-    pub local: Option<Addr>,
-    pub peer: Option<Addr>,
-}
+use sock_udp::UdpEnds;
 
 /// Whether two sockets, where there are any, are bound and connected alike.
 pub(crate) fn are_alike(a: Option<UdpEnds>, b: Option<UdpEnds>) -> bool

@@ -5,9 +5,10 @@ ghost use Rattle.number_sets.specs.Sets.{has};
 ghost use Rattle.udp_table.specs.inside.Indexing.{earlier};
 
 use crate::bound::{is_met_at, move_end, note};
-use crate::ends::{UdpEnds, at_place, local_in, takes};
+use crate::ends::{at_place, local_in, takes};
 use number_sets::{NumberBag, NumberSet, free_port, given_end, recount};
 use sim_base::{Addr, Ip};
+use sock_udp::UdpEnds;
 use std::alloc::Global;
 use std::collections::HashMap;
 

@@ -7,5 +7,4 @@ mod ends;
 mod index;
 mod table;
 
-pub use ends::UdpEnds;
 pub use table::UdpTable;

@@ -7,10 +7,11 @@ ghost use Rattle.udp_table.specs.Table.{local_in, end_in, takes_in, bound_ends};
 ghost use Rattle.udp_table.specs.declared.index.Index.{Index};
 ghost use Rattle.udp_table.specs.inside.Indexing.{Changes, Indexes};
 
-use crate::ends::{UdpEnds, are_alike, meets_in, takes};
+use crate::ends::{are_alike, meets_in, takes};
 use crate::index::Index;
 use number_sets::{FIRST_GIVEN, GIVEN};
 use sim_base::{Addr, Errno, Ip, NoMemory};
+use sock_udp::UdpEnds;
 use std::alloc::Global;
 use std::marker::Model;
 
@@ -35,7 +36,7 @@ impl Drop for UdpTable {
 
 impl Model for UdpTable {
     ghost use Rattle.std.specs.Prelude.{◌≡◌, List, Option, Some};
-    ghost use Rattle.udp_table.specs.declared.ends.UdpEnds.{UdpEnds};
+    ghost use Rattle.sock_udp.specs.declared.ends.UdpEnds.{UdpEnds};
     ghost use Rattle.udp_table.specs.declared.index.Index.{Index};
     ghost use Rattle.udp_table.specs.inside.Indexing.{Indexes};
 

@@ -9,7 +9,7 @@ use Rattle.sim_base.specs.Addresses.{is_same, is_same_ip, meets, at_port}
 use Rattle.number_sets.specs.Sets.{has}
 use Rattle.number_sets.specs.Bags.{Holds}
 use Rattle.number_sets.specs.Ports.{given_end, once}
-use Rattle.udp_table.specs.declared.ends.UdpEnds.{UdpEnds}
+use Rattle.sock_udp.specs.declared.ends.UdpEnds.{UdpEnds}
 use Rattle.udp_table.specs.declared.index.Index.{Index}
 use Rattle.udp_table.specs.Table.{local_in}
 

@@ -1,7 +1,7 @@
 use Rattle.std.proofs.Common.{List, Option, ap, ◌∙◌}
 use Rattle.sim_base.specs.declared.address.Addr.{Addr}
 use Rattle.sock_udp.specs.Socket.{end_left}
-use Rattle.udp_table.specs.declared.ends.UdpEnds.{UdpEnds}
+use Rattle.sock_udp.specs.declared.ends.UdpEnds.{UdpEnds}
 use Rattle.udp_table.specs.Table.{bound_ends}
 use Rattle.host_sockets.proofs.UdpTold.{ends_told}
 use Rattle.host_sockets.proofs.udp_socks.UdpSocks.end_left.Goals as goal

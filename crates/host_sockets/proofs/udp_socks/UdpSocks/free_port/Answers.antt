@@ -1,6 +1,6 @@
 use Rattle.std.proofs.Common.{List, Option, ap, ◌∙◌}
 use Rattle.sim_base.specs.Addresses.{least_free_port}
-use Rattle.udp_table.specs.declared.ends.UdpEnds.{UdpEnds}
+use Rattle.sock_udp.specs.declared.ends.UdpEnds.{UdpEnds}
 use Rattle.udp_table.specs.Table.{bound_ends}
 use Rattle.host_sockets.proofs.UdpTold.{ends_told}
 use Rattle.host_sockets.proofs.udp_socks.UdpSocks.free_port.Goals as goal

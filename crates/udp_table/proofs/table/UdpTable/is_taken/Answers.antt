@@ -1,6 +1,6 @@
 use Rattle.std.proofs.Common.{List, Option, ap, ◌∙◌}
 use Rattle.sim_base.specs.Addresses.{is_taken}
-use Rattle.udp_table.specs.declared.ends.UdpEnds.{UdpEnds}
+use Rattle.sock_udp.specs.declared.ends.UdpEnds.{UdpEnds}
 use Rattle.udp_table.specs.Table.{bound_ends}
 use Rattle.udp_table.proofs.Meeting.{met_in}
 use Rattle.udp_table.proofs.table.UdpTable.is_taken.Goals as goal

@@ -1,5 +1,5 @@
 use Rattle.std.proofs.Common.{List, Option, Some, sym, subst, arith}
-use Rattle.udp_table.specs.declared.ends.UdpEnds.{UdpEnds}
+use Rattle.sock_udp.specs.declared.ends.UdpEnds.{UdpEnds}
 use Rattle.udp_table.specs.inside.Indexing.{Indexes}
 use Rattle.udp_table.proofs.Places.{changes_push}
 use Rattle.udp_table.proofs.table.UdpTable.push.Goals as goal
