@@ -2,6 +2,7 @@ mod PieceLemmas
 mod ListingLemmas
 mod FrontLemmas
 mod ContentLemmas
+mod GatherLemmas
 mod NameLemmas
 mod SplitLemmas
 mod FileLemmas

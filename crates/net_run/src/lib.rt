@@ -2,6 +2,7 @@
 #![tactic(auto)]
 
 mod ending;
+mod gathered;
 mod heads;
 mod laws;
 mod notes;
@@ -10,8 +11,8 @@ mod process_pieces;
 mod streams;
 
 pub use ending::put_rest;
+pub use gathered::Gathered;
 pub use heads::put_heads;
 pub use laws::{parts_are_between, runs_grow};
 pub use notes::put_notes;
-pub use output::put_pieces;
 pub use streams::put_streams;

@@ -9,7 +9,7 @@ use run_files::Piece;
 use run_outside::{Sink, WriteError, put_all};
 
 /// Puts all pieces in order.
-pub fn put_pieces<K: Sink>(sink: &mut K, pieces: &[Piece]) -> Result<(), WriteError>
+pub(crate) fn put_pieces<K: Sink>(sink: &mut K, pieces: &[Piece]) -> Result<(), WriteError>
     ensures ok { OnOk result (K.content sink.new ≡ option_map (with_pieces (map put_of pieces.now)) (K.content sink.old)) }
 
     // After an error some of the pieces were put, the last one perhaps in part.

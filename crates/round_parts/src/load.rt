@@ -1,4 +1,4 @@
-//! Whether a round is worth threads, by what the last rounds had to do.
+//! What rounds had to do, and whether the next is worth threads by that.
 ghost use Rattle.std.specs.Prelude.{◌≤◌, ◌<◌};
 
 /// How many instructions a round has to have beside its busiest host for each thread: ten times what it takes to start one and to
@@ -10,6 +10,9 @@ const MOVE_WORTH: u64 = 300;
 
 /// And beside that for each that has something to do.
 const RUN_WORTH: u64 = 2_200;
+
+/// How many instructions a round takes beside what hosts do in it.
+const ROUND_WORK: u64 = 200;
 
 /// The mean of a round's numbers and those before it has so large a part of it: an eighth.
 const PART: u64 = 8;
@@ -41,17 +44,26 @@ impl RoundLoad {
     }
 }
 
-/// What a round had to do beside its busiest host, which is what other threads can take off the caller: the mean of the last rounds,
-/// where the latest count most. None where nothing is known of any.
+/// What rounds had to do: all of them, and the mean of the last rounds, where the latest count most, of what they had to do beside
+/// their busiest host, which is what other threads can take off the caller. None where nothing is known of any.
 #[derive(Drop)]
 pub struct Load {
+    all: u64,
     beside: Option<u64>,
 }
 
 impl Load {
     /// Before the first round.
     pub fn new() -> Load {
-        Load { beside: None }
+        Load {
+            all: 0,
+            beside: None,
+        }
+    }
+
+    /// About what all rounds had to do so far, as a number of instructions. No clause speaks of it.
+    pub fn all(&self) -> u64 {
+        self.all
     }
 
     /// In how many threads a round of so many hosts, of which so many are busy, is run that so many threads could run: as many as it is
@@ -75,6 +87,9 @@ impl Load {
 
     /// Notes what a round had to do. One that a single thread alone could have run leaves the mean as it is.
     pub fn note(&mut self, round: RoundLoad) {
+        self.all = self
+            .all
+            .saturating_add(round.all.saturating_add(ROUND_WORK));
         if round.hosts < 2 {
             return;
         }

@@ -1,5 +1,5 @@
 -- The rounds of a run, and what is put meanwhile.
-use Rattle.std.proofs.Common.{◌≡◌, ℕ, ◌≤◌, ⊎_elim, inr, Bool, List, All, Option, Some, option_map, Result, Ok, Err, OnOk, OnErr, length, sym, ap, subst, refl, ◌∙◌}
+use Rattle.std.proofs.Common.{◌≡◌, ℕ, ◌≤◌, Bool, List, [], All, Option, None, Some, option_map, Result, Ok, Err, OnOk, OnErr, length, sym, ap, subst, refl, ◌∙◌}
 use Rattle.std.specs.Prelude.{flat_map}
 use Rattle.std.proofs.lemmas.List.{length-map}
 use Rattle.run_outside.specs.Sink.{Content}
@@ -20,7 +20,7 @@ use Rattle.host_link.specs.Net.{Net}
 use Rattle.host_rows.specs.declared.row.Row.{Row}
 use Rattle.net_run.specs.Grown.{HaveOwnFiles, IsUnderway}
 use Rattle.net_run.specs.Heads.{all_heads}
-use Rattle.net_run.specs.Parts.{Between}
+use Rattle.net_run.specs.Parts.{Between, Grows}
 use Rattle.net_run.specs.Pieces.{with_pieces, PutsFront}
 use Rattle.net_run.specs.Shown.{run_pieces}
 use Rattle.round_lookahead.specs.Gains.{HasRound}
@@ -29,9 +29,9 @@ use Rattle.round_lookahead.specs.Tasks.{waiting}
 use Rattle.round_lookahead.specs.WorldStands.{WorldStands}
 use Rattle.round_lookahead.specs.declared.world.pieces.Pieces.{Pieces}
 use Rattle.round_lookahead.specs.declared.world.world_state.World as rounds
-use Rattle.shadow_top.specs.inside.Rounds.{gained_by, PutsSomeGained, PutsRound, StandsAt, HasAllRounds, PutsInPart}
+use Rattle.shadow_top.specs.inside.Rounds.{gained_by, StandsAt, HasAllRounds, PutsInPart, PutsRounds}
 use Rattle.shadow_top.proofs.FitLemmas.{fit_append}
-use Rattle.shadow_top.proofs.GrowLemmas.{AreBetween, Grows-refl, Grows_with_pieces, between_part}
+use Rattle.shadow_top.proofs.GrowLemmas.{AreBetween, Grows-refl, Grows-trans, Grows_with_pieces, between_part, told_nothing}
 
 -- ---- what is told of runs
 
@@ -58,14 +58,6 @@ abbrev pub AreFronts : Type 0
 AreFronts = (names : List HostNames) (begun : Content) (now : Option Content) (w later : World) (load : Bool) → IsUnderway names begun now w → Extends w later
     → Between begun now (with_pieces (run_pieces load later) begun)
 
--- ---- one round
-
--- what a round gained was put, or some of it
-pub round_told : (c d : rounds.World) (workers : ℕ) (w v : World) (p : Pieces) (old new : Option Content) → HasRound c d workers w v p → (r : Result (Unit {0}) WriteError)
-    → OnOk r (new ≡ option_map (with_pieces (gained_by p)) old) → OnErr r (PutsFront (gained_by p) old new) → PutsRound c d workers w old new r
-round_told c d workers w v p old new round (Ok done) put front = (v, p, round, put)
-round_told c d workers w v p old new round (Err error) put front = inr (v, p, round, front)
-
 -- the listing has all hosts
 pub at_count : (c : rounds.World) (w : World) → WorldStands c w → length (names_of c.listing) ≡ length w.hosts
 at_count c w at = ap length at.listed ∙ length-map w.hosts (λ (h : HostRecord). listed h.row)
@@ -81,8 +73,17 @@ pub record HasCome (c d : rounds.World) (start : World) (old now : Option Conten
   pub stands : StandsAt world old now
   pub fit : AllFit (lines_of start.log) → AllFit (lines_of world.log)
 
-pub come_start : (c : rounds.World) (w : World) (old now : Option Content) → HasReached c.net w w → WorldStands c w → StandsAt w old now → HasCome c c w old now
-come_start c w old now reached at stands = record { world = w; net = refl; at = at; reached = reached; stands = stands; fit = λ h. h }
+-- nothing is gathered yet
+pub come_start : (c : rounds.World) (w : World) (old now : Option Content) (gathered : List Put) → gathered ≡ [] → HasReached c.net w w → WorldStands c w → StandsAt w old now
+    → HasCome c c w old (option_map (with_pieces gathered) now)
+come_start c w old now gathered none reached at stands = record {
+  world = w;
+  net = refl;
+  at = at;
+  reached = reached;
+  stands = subst (StandsAt w old) (sym (ap (λ (ps : List Put). option_map (with_pieces ps) now) none ∙ told_nothing now)) stands;
+  fit = λ h. h;
+}
 
 module _ (c d : rounds.World) (start : World) (old mid : Option Content) (come : HasCome c d start old mid) where
   reached_here : HasReached d.net start come.world
@@ -97,13 +98,6 @@ module _ (c d : rounds.World) (start : World) (old mid : Option Content) (come :
     stands = come.stands;
     fit = come.fit;
   }
-
-  module _ (extended : AreExtended) (fronts : AreFronts) where
-    -- what stands is a front of what the result shows
-    come_part : PutsInPart c start old mid
-    come_part =
-        let (r, result, later) = extended start come.world d come.at reached_here in
-        (r, subst (λ (n : Net). IsResult n r start) come.net result, λ begun is load. fronts (names_in come.world) begun mid come.world r load (come.stands begun is) later)
 
   module _ (lead : LeadOn) (grow : Grow) (e : rounds.World) (workers : ℕ) (v : World) (p : Pieces) (same : e.net ≡ d.net) (round : HasRound d e workers come.world v p) (new : Option Content) where
     reached_next : HasReached d.net start v
@@ -129,32 +123,54 @@ module _ (c d : rounds.World) (start : World) (old mid : Option Content) (come :
       fit = λ h. subst AllFit (sym round.files.gained.log) (fit_append (lines_of come.world.log) round.files.lines (come.fit h) round.files.fit);
     }
 
-    module _ (extended : AreExtended) (fronts : AreFronts) (parts : AreBetween) where
-      -- or some of it
-      come_part_further : PutsFront (gained_by p) mid new → PutsInPart c start old new
-      come_part_further front =
-          let (r, result, later) = extended start v e round.turns.stands (subst (λ (n : Net). HasReached n start v) (sym same) reached_next) in (
-            r,
-            subst (λ (n : Net). IsResult n r start) (same ∙ come.net) result,
-            λ begun is load.
-                (let u = come.stands begun is in
-                let stood : Content = with_pieces u.puts begun in
-                let whole : Content = with_pieces (run_pieces load r) begun in
-                let all : Between begun (option_map (with_pieces gained) mid) whole = fronts (names_in come.world) begun (option_map (with_pieces gained) mid) v r load (underway_next begun is) later in
-                between_part parts gained begun stood whole new (Grows_with_pieces parts u.puts begun)
-                (subst (λ (l : List Put). PutsFront l (Some stood) new) round.files.files_are (subst (λ (o : Option Content). PutsFront (gained_by p) o new) u.now_is front))
-                (subst (λ (o : Option Content). Between begun (option_map (with_pieces gained) o) whole) u.now_is all)),
-          )
+-- ---- what is gathered
 
-  module _ (lead : LeadOn) (grow : Grow) (extended : AreExtended) (fronts : AreFronts) (parts : AreBetween) (e : rounds.World) (workers : ℕ) (new : Option Content) (same : e.net ≡ d.net) where
-    -- a round stopped
-    pub come_stopped : PutsSomeGained d e workers come.world mid new → PutsInPart c start old new
-    come_stopped some =
-        ⊎_elim
-        (λ (none : new ≡ mid). subst (PutsInPart c start old) (sym none) (come_part extended fronts))
-        (λ (round : (v : World) × (p : Pieces) × HasRound d e workers come.world v p × PutsFront (gained_by p) mid new).
-        come_part_further lead grow e workers round.0 round.1 same round.2 new extended fronts parts round.3)
-        some
+-- what a round gained is put behind what was gathered before
+pub gathered_more : (old more new : List Put) → ((at : Content) → with_pieces new at ≡ with_pieces more (with_pieces old at)) → (o : Option Content)
+    → option_map (with_pieces new) o ≡ option_map (with_pieces more) (option_map (with_pieces old) o)
+gathered_more old more new is None = refl
+gathered_more old more new is (Some c) = ap Some (is c)
+
+-- the same, of which some was put
+pub gathered_left : (old more new left : List Put) (o p : Option Content) → option_map (with_pieces left) p ≡ option_map (with_pieces new) o → ((at : Content) → with_pieces new at ≡ with_pieces more (with_pieces old at))
+    → option_map (with_pieces left) p ≡ option_map (with_pieces more) (option_map (with_pieces old) o)
+gathered_left old more new left o p put is = put ∙ gathered_more old more new is o
+
+-- what stands is what stood when the run began, grown
+abbrev pub HasGrown : Option Content → Option Content → Type 0
+HasGrown old now = (begun : Content) → old ≡ Some begun → (stood : Content) × (now ≡ Some stood) × Grows begun stood
+
+module _ (parts : AreBetween) where
+  pub grown_start : (w : World) (old now : Option Content) → StandsAt w old now → HasGrown old now
+  grown_start w old now at = λ begun is. (let u = at begun is in (with_pieces u.puts begun, u.now_is, Grows_with_pieces parts u.puts begun))
+
+  pub grown_further : (puts : List Put) (old now new : Option Content) → HasGrown old now → new ≡ option_map (with_pieces puts) now → HasGrown old new
+  grown_further puts old now new grown is = λ begun at.
+      (let (stood, now_is, grows) = grown begun at in
+      (with_pieces puts stood, is ∙ ap (option_map (with_pieces puts)) now_is, Grows-trans begun stood (with_pieces puts stood) grows (Grows_with_pieces parts puts stood)))
+
+  -- some of what was gathered was put: each target holds a front of what the result shows
+  module _ (c d : rounds.World) (start : World) (old now : Option Content) (gathered : List Put) (come : HasCome c d start old (option_map (with_pieces gathered) now)) (grown : HasGrown old now) where
+    pub come_part : AreExtended → AreFronts → (new : Option Content) → PutsFront gathered now new → PutsInPart c start old new
+    come_part extended fronts new front =
+        let (r, result, later) = extended start come.world d come.at (reached_here c d start old (option_map (with_pieces gathered) now) come) in (
+          r,
+          subst (λ (n : Net). IsResult n r start) come.net result,
+          λ begun is load.
+              (let (stood, now_is, grows) = grown begun is in
+              let whole : Content = with_pieces (run_pieces load r) begun in
+              let all : Between begun (option_map (with_pieces gathered) now) whole = fronts (names_in come.world) begun (option_map (with_pieces gathered) now) come.world r load (come.stands begun is) later in
+              between_part parts gathered begun stood whole new grows
+              (subst (λ (o : Option Content). PutsFront gathered o new) now_is front)
+              (subst (λ (o : Option Content). Between begun (option_map (with_pieces gathered) o) whole) now_is all)),
+        )
+
+    -- no round is left, and all that was gathered was put, or some of it
+    pub rounds_told : Finish → AreExtended → AreFronts → All (λ (e : Event). d.net.stop.nanos ≤ e.key.due.nanos) (flat_map waiting d.tasks.items) → (new : Option Content) (r : Result (Unit {0}) WriteError)
+        → OnOk r (new ≡ option_map (with_pieces gathered) now) → OnErr r (PutsFront gathered now new) → PutsRounds c d start old new r
+    rounds_told finish extended fronts late new (Ok done) put front =
+        subst (HasAllRounds c d start old) (sym put) (come_end c d start old (option_map (with_pieces gathered) now) come finish late)
+    rounds_told finish extended fronts late new (Err error) put front = come_part extended fronts new front
 
 -- ---- the beginning
 

@@ -42,6 +42,11 @@ impl World {
         }
     }
 
+    /// About what all rounds had to do so far, as a number of instructions of guests. No clause speaks of it: it is for estimates.
+    pub fn work(&self) -> u64 {
+        self.load.all()
+    }
+
     /// In how many threads the round up to the end is run, by so many workers: in as many as it is worth, and no more than could run
     /// it. Where one is enough by what the last rounds had to do, no host is looked at.
     fn threads(&self, end: Time, workers: u32) -> u32

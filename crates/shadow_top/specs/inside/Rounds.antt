@@ -1,5 +1,5 @@
 -- What is put while a run goes on, and at its end.
-use Rattle.std.specs.Prelude.{◌≡◌, ℕ, ◌⊎◌, Bool, List, map, Option, Some, option_map, Result, Ok, Err}
+use Rattle.std.specs.Prelude.{◌≡◌, ℕ, Bool, List, map, Option, Some, Result, Ok, Err}
 use Rattle.run_outside.specs.Sink.{Content}
 use Rattle.run_outside.specs.declared.sink.WriteError.{WriteError}
 use Rattle.run_files.specs.Files.{Put, put_of}
@@ -9,7 +9,7 @@ use Rattle.host_link.specs.Logs.{lines_of}
 use Rattle.host_state.specs.World.{World, IsResult}
 use Rattle.net_run.specs.Grown.{IsUnderway}
 use Rattle.net_run.specs.Parts.{Between}
-use Rattle.net_run.specs.Pieces.{with_pieces, PutsFront}
+use Rattle.net_run.specs.Pieces.{with_pieces}
 use Rattle.net_run.specs.Shown.{run_pieces}
 use Rattle.round_lookahead.specs.Gains.{HasRound}
 use Rattle.round_lookahead.specs.WorldStands.{WorldStands}
@@ -20,14 +20,9 @@ use Rattle.round_lookahead.specs.declared.world.world_state.World as rounds
 abbrev pub gained_by : Pieces → List Put
 gained_by p = map put_of p.files.items
 
--- nothing was put; or the round was made, and some of what it gained was put
-abbrev pub PutsSomeGained : rounds.World → rounds.World → ℕ → World → Option Content → Option Content → Type 0
-PutsSomeGained c d workers w old new = (new ≡ old) ⊎ ((v : World) × (p : Pieces) × HasRound c d workers w v p × PutsFront (gained_by p) old new)
-
--- what a round leaves
-abbrev pub PutsRound : rounds.World → rounds.World → ℕ → World → Option Content → Option Content → Result (Unit {0}) WriteError → Type 0
-PutsRound c d workers w old new (Ok done) = (v : World) × (p : Pieces) × HasRound c d workers w v p × (new ≡ option_map (with_pieces (gained_by p)) old)
-PutsRound c d workers w old new (Err error) = PutsSomeGained c d workers w old new
+-- a round, and what it gained, gathered behind what was there
+abbrev pub GathersRound : rounds.World → rounds.World → ℕ → World → List Put → List Put → Type 0
+GathersRound c d workers w old new = (v : World) × (p : Pieces) × HasRound c d workers w v p × ((at : Content) → with_pieces new at ≡ with_pieces (gained_by p) (with_pieces old at))
 
 -- what stands is what was put since a run began that has come to this world, if the sink tells what it holds
 abbrev pub StandsAt : World → Option Content → Option Content → Type 0
