@@ -1,5 +1,5 @@
 -- What is read of cells, and what they hold after a write.
-use Rattle.std.proofs.Common.{◌≡◌, ℕ, zero, suc, ◌+◌, ◌-◌, ◌<◌, ◌≤◌, ◌≢◌, ◌*◌, ◌⊎◌, inl, inr, Bool, true, false, cond, List, [], ◌∷◌, ◌++◌, length, get_or, take, drop, Option, Some, None, refl, sym, ap, subst, ◌∙◌, arith, is_some, ⊎_elim, eq-eqb}
+use Rattle.std.proofs.Common.{◌≡◌, ℕ, zero, suc, ◌+◌, ◌-◌, ◌<◌, ◌≤◌, ◌≢◌, ◌⊎◌, inl, inr, Bool, true, false, cond, List, [], ◌∷◌, ◌++◌, length, get_or, take, drop, Option, Some, None, refl, sym, ap, subst, ◌∙◌, arith, is_some, ⊎_elim, eq-eqb}
 use Rattle.std.proofs.lemmas.Bool.{ne_eqb, cases_eq, cases_lt}
 use Rattle.std.proofs.lemmas.List.{length-append, length-take-le, length-drop}
 use Rattle.std.proofs.Math.Seq.{take-add}
@@ -8,9 +8,8 @@ use Rattle.std.specs.FinMap as map
 use Rattle.std.specs.FinMap.{get-insert}
 use Rattle.std.specs.Cmp.{nat_cmp_total, unsigned_tied}
 use Rattle.elf_load.specs.Cells.{Cell, Cells}
-use Rattle.elf_load.specs.Room.{page_size}
 use Rattle.guest_mem.specs.declared.right.Right.{Right}
-use Rattle.guest_mem.specs.Memory.{IsPage, permits, permitted, byte_for, with_first, bytes_for, with_byte, put, put_all}
+use Rattle.guest_mem.specs.Memory.{permits, permitted, byte_for, with_first, bytes_for, with_byte, put, put_all}
 
 -- bytes that stand one after another are read together
 pub bytes_for_all : (right : Right) (cells : Cells) (bytes : List ℕ) (a : ℕ) → ((o : ℕ) → o < length bytes → byte_for right cells (a + o) ≡ Some (get_or bytes o 0)) → bytes_for right (length bytes) cells a ≡ Some bytes
@@ -204,38 +203,3 @@ put_more cells now next a j k bytes l front back =
 pub length_put_mid : (a k : ℕ) (xs ys : List ℕ) → a + k ≤ length xs → length ys ≡ k → length (put_mid a k xs ys) ≡ length xs
 length_put_mid a k xs ys l e =
     omega (arith, length-append (take a xs) (ys ++ drop k (drop a xs)), length-append ys (drop k (drop a xs)), length-take-le a xs (omega arith), length-drop k (drop a xs), length-drop a xs)
-
--- what is read at once is there byte by byte
-record WithFirst (byte : Option ℕ) (others : Option (List ℕ)) (bytes : List ℕ) : Type 0 where
-  first : ℕ
-  rest : List ℕ
-  byte_is : byte ≡ Some first
-  others_are : others ≡ Some rest
-  whole : bytes ≡ first ∷ rest
-
-with_first_some : (byte : Option ℕ) (others : Option (List ℕ)) (bytes : List ℕ) → with_first byte others ≡ Some bytes → WithFirst byte others bytes
-with_first_some None others bytes is = cc
-with_first_some (Some b) None bytes is = cc
-with_first_some (Some b) (Some bs) bytes is = record { first = b; rest = bs; byte_is = refl; others_are = refl; whole = cc }
-
-pub bytes_for_each : (right : Right) (cells : Cells) (n a o : ℕ) (bytes : List ℕ) → bytes_for right n cells a ≡ Some bytes → o < n → byte_for right cells (a + o) ≡ Some (get_or bytes o 0)
-bytes_for_each right cells zero a o bytes is l = absurd (omega arith)
-bytes_for_each right cells (suc n) a zero bytes is l =
-    let s = with_first_some (byte_for right cells a) (bytes_for right n cells (a + 1)) bytes is in
-    rw s.whole (subst (λ (x : ℕ). byte_for right cells x ≡ Some s.first) (let e : a ≡ a + 0 = omega arith in e) s.byte_is)
-bytes_for_each right cells (suc n) a (suc o) bytes is l =
-    let s = with_first_some (byte_for right cells a) (bytes_for right n cells (a + 1)) bytes is in
-    let there : a + 1 + o ≡ a + suc o = omega arith in
-    rw s.whole (subst (λ (x : ℕ). byte_for right cells x ≡ Some (get_or s.rest o 0)) there (bytes_for_each right cells n (a + 1) o s.rest s.others_are (omega arith)))
-
--- a page, of which all bytes were read at once, or weren't
-pub page_read : (right : Right) (cells : Cells) (number n : ℕ) (bytes : List ℕ) → n ≡ page_size → length bytes ≡ page_size → bytes_for right n cells (page_size * number) ≡ Some bytes → IsPage right cells number bytes
-page_read right cells number n bytes whole long is = record { long = long; each = λ o l. bytes_for_each right cells n (page_size * number) o bytes is (omega arith) }
-
-pub page_none : (right : Right) (cells : Cells) (number n : ℕ) → n ≡ page_size → bytes_for right n cells (page_size * number) ≡ None → (bytes : List ℕ) → ¬ (IsPage right cells number bytes)
-page_none right cells number n whole none bytes page =
-    let as_long : length bytes ≡ n = page.long ∙ sym whole in
-    let there : bytes_for right n cells (page_size * number) ≡ Some bytes =
-    subst (λ (x : ℕ). bytes_for right x cells (page_size * number) ≡ Some bytes) as_long (bytes_for_all right cells bytes (page_size * number) (λ o l. page.each o (omega (arith, page.long)))) in
-    let is : None ≡ Some bytes = sym none ∙ there in
-    cc

@@ -3,4 +3,5 @@ pub mod CellLemmas
 pub mod HeapLemmas
 pub mod PageLemmas
 pub mod SlotLemmas
+pub mod StoreLemmas
 pub mod TableLemmas

@@ -217,7 +217,7 @@ module _ (front ns : List ℕ) (heap : ℕ) (table : IsPageTable front ns heap) 
 pub byte_for_some : (right : Right) (ps : List GuestPage) (n i o : ℕ) (d : GuestPage) → o < page_size → place_of (numbers ps) n ≡ Some i → permits right (get_or ps i d).rights ≡ true → byte_for right (mapped_cells ps) (page_size * n + o) ≡ Some (get_or (get_or ps i d).bytes o 0)
 byte_for_some right ps n i o d l is may = ap (permitted right) (get_cells_some ps n i o d l is) ∙ ap (λ (b : Bool). cond b (Some (get_or (get_or ps i d).bytes o 0)) None) may
 
-byte_for_denied : (right : Right) (ps : List GuestPage) (n i o : ℕ) (d : GuestPage) → o < page_size → place_of (numbers ps) n ≡ Some i → permits right (get_or ps i d).rights ≡ false → byte_for right (mapped_cells ps) (page_size * n + o) ≡ None
+pub byte_for_denied : (right : Right) (ps : List GuestPage) (n i o : ℕ) (d : GuestPage) → o < page_size → place_of (numbers ps) n ≡ Some i → permits right (get_or ps i d).rights ≡ false → byte_for right (mapped_cells ps) (page_size * n + o) ≡ None
 byte_for_denied right ps n i o d l is may = ap (permitted right) (get_cells_some ps n i o d l is) ∙ ap (λ (b : Bool). cond b (Some (get_or (get_or ps i d).bytes o 0)) None) may
 
 byte_for_none : (right : Right) (ps : List GuestPage) (n o : ℕ) → o < page_size → place_of (numbers ps) n ≡ None → byte_for right (mapped_cells ps) (page_size * n + o) ≡ None

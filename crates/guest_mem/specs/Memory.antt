@@ -60,6 +60,11 @@ pub record IsPage (right : Right) (cells : Cells) (number : ℕ) (bytes : List �
   pub long : length bytes ≡ page_size
   pub each : (o : ℕ) → o < page_size → byte_for right cells (page_size * number + o) ≡ Some (slice_index bytes o)
 
+-- the same of a page of code: each of its addresses may be executed, and none written
+pub record IsCode (cells : Cells) (number : ℕ) (bytes : List ℕ) : Type 0 where
+  pub page : IsPage Execute cells number bytes
+  pub fixed : (o : ℕ) → o < page_size → byte_for Write cells (page_size * number + o) ≡ None
+
 -- the cells with another byte in one of them, whose rights stay
 abbrev pub with_byte : Cells → ℕ → ℕ → Option Cell → Cells
 with_byte cells a byte None = cells

@@ -5,6 +5,7 @@ mod bad;
 mod code;
 mod entry;
 mod hint;
+pub mod laws;
 mod listing;
 mod mem;
 mod pages;
@@ -12,7 +13,7 @@ mod right;
 mod table;
 
 pub use bad::Bad;
-pub use code::word_in;
+pub use code::{CodePage, word_in};
 pub use hint::FetchHint;
 pub use mem::Mem;
 pub use right::Right;

@@ -1,10 +1,11 @@
 //! Guest memory: bytes with rights at addresses, and the break.
 
-ghost use Rattle.std.specs.Prelude.{◌≡◌, ◌^◌, ◌<◌, ℕ, List, Some, None, MatchOption, MatchResult, IfOk, OnOk, OnErr, is_some, length};
-ghost use Rattle.guest_mem.specs.Memory.{IsPage, read, load, write, store};
+ghost use Rattle.std.specs.Prelude.{◌≡◌, ◌^◌, ◌<◌, Some, None, MatchResult, IfOk, IfSome, OnOk, OnErr, is_some, length};
+ghost use Rattle.guest_mem.specs.Memory.{IsCode, read, load, write, store};
 ghost use Rattle.guest_mem.specs.Break.{grown, pages_to};
 ghost use Rattle.guest_mem.specs.Opening.{opening};
 
+use crate::code::CodePage;
 use crate::hint::FetchHint;
 use crate::pages::Pages;
 use crate::table::{PageTable, STACK_FIRST, STACK_PAGES};
@@ -113,15 +114,14 @@ impl Mem {
         self.table.fetch(at, hint)
     }
 
-    /// The bytes of the page with this number, which may be executed. The page that the hint names is tried first; the answer
-    /// is the same for every hint.
+    /// The page with this number, where it may be executed and not written, apart from this memory; none perhaps where there is one.
+    /// The page that the hint names is tried first; what the page has is the same for every hint.
     #[inline]
-    pub fn code(&self, number: u32, hint: &mut FetchHint) -> Option<&[u8]>
+    pub fn code_page(&self, number: u32, hint: &mut FetchHint) -> Option<CodePage>
         requires { number < 2 ^ 20 }
-        ensures { MatchOption result ((bytes : List ℕ) → ¬ (IsPage Right.Execute self.now.cells number bytes))
-            (λ page. IsPage Right.Execute self.now.cells number page.now) }
+        ensures { IfSome result (λ page. IsCode self.now.cells number page) }
     {
-        self.table.page(Right::Execute, number, hint)
+        self.table.code_page(number, hint)
     }
 
     /// Puts the 1 byte of `value` at `at`.

@@ -1,6 +1,6 @@
 //! The pages of a guest by place: their rights, and slots with their bytes.
 
-ghost use Rattle.std.specs.Prelude.{◌≡◌, ℕ, ◌+◌, ◌*◌, ◌^◌, ◌<◌, ◌≤◌, ◌⊎◌, [], ◌∷◌, ◌++◌, IfOk, OnOk, length, map, take, drop, slice_index, slice_index_or, vec_len, vec_capacity};
+ghost use Rattle.std.specs.Prelude.{◌≡◌, ℕ, ◌+◌, ◌*◌, ◌^◌, ◌<◌, ◌≤◌, ◌⊎◌, [], ◌∷◌, ◌++◌, IfOk, IfSome, OnOk, length, map, take, drop, slice_index, slice_index_or, vec_len, vec_capacity};
 ghost use Rattle.std.specs.Arc.{arc_value};
 ghost use Rattle.std.proofs.Props.{props};
 ghost use Rattle.guest_mem.specs.Break.{max_pages};
@@ -8,6 +8,7 @@ ghost use Rattle.guest_mem.specs.inside.Pages.{GuestPage, IsRewritten, of_image,
 ghost use Rattle.guest_mem.specs.inside.Slots.{AreSlots, shared_bytes, slot_bytes, slots};
 ghost use Rattle.elf_load.specs.Room.{page_size, max_program_pages};
 
+use crate::code::CodePage;
 use crate::entry::Entry;
 use crate::listing::image_entries;
 use elf_load::{PAGE_SIZE, Rights, SharedPages};
@@ -20,14 +21,18 @@ const ZEROS: u16 = 0;
 /// The pages of a guest, each at its place. The slots below `first_own` are shared by all guests of the image, and are
 /// never written: the page of zeros, and the image's pages. A page takes a slot of its own when it is first written, and
 /// the bytes of these lie in one vector, whose room is reserved before there is a page that may need it. An entry past
-/// `count` is of a page that was unmapped, and its slot is the next page's at its place.
+/// `count` is of a page that was unmapped, and its slot is the next page's at its place. The shared ones have an owner that is this
+/// guest's alone, of which there may be more without a count that guests have in common.
 #[derive(Drop)]
 pub(crate) struct Pages {
     pub shared: Arc<SharedPages, Global>,
+    own_shared: Arc<Arc<SharedPages, Global>, Global>,
     first_own: usize,
     entries: Vec<Entry>,
     count: usize,
     bytes: Vec<u8>,
+    ghost same: { shared_bytes (arc_value (arc_value own_shared)) ≡ shared_bytes (arc_value shared) } by { Prim.hlevel props },
+    ghost as_many: { vec_len (arc_value (arc_value own_shared)).pages ≡ vec_len (arc_value shared).pages },
     ghost shares: { first_own ≡ vec_len (arc_value shared).pages + 1 },
     ghost sound: { AreSlots (slots entries.items) count first_own (shared_bytes (arc_value shared) ++ bytes.items) (vec_capacity bytes) } by { Prim.hlevel props },
 }
@@ -51,8 +56,11 @@ impl Pages {
         let count = shared.pages.len();
         let entries = image_entries(alloc, &shared, more)?;
         let bytes = Vec::with_capacity(alloc, (count + more) * PAGE_SIZE)?;
+        let own = Arc::try_clone(&shared)?;
+        let own_shared = Arc::new(alloc, own)?;
         Ok(Pages {
             shared,
+            own_shared,
             first_own: count + 1,
             entries,
             count,
@@ -91,6 +99,22 @@ impl Pages {
         } else {
             let from = (slot - self.first_own) * PAGE_SIZE + offset;
             &self.bytes[from..from + len]
+        }
+    }
+
+    /// The page at a place, where it has a shared slot, apart from these.
+    #[inline]
+    pub fn apart(&self, place: usize) -> Option<CodePage>
+        requires { place < self.now.count }
+        ensures { IfSome result (λ page. (d : GuestPage) → page ≡ (slice_index_or (shown self.now) place d).bytes) }
+    {
+        let slot = self.entries[place].slot as usize;
+        if slot >= self.first_own {
+            return None;
+        }
+        match Arc::try_clone(&self.own_shared) {
+            Ok(shared) => Some(CodePage::new(shared, slot)),
+            Err(_) => None,
         }
     }
 
@@ -273,7 +297,7 @@ impl Pages {
 
 /// The bytes of a shared slot: zeros, or a page of the image.
 #[inline]
-fn shared_slot(shared: &SharedPages, slot: usize) -> &[u8]
+pub(crate) fn shared_slot(shared: &SharedPages, slot: usize) -> &[u8]
     requires { slot ≤ vec_len shared.now.pages }
     ensures { result.now ≡ slot_bytes (shared_bytes shared.now) slot }
 {

@@ -5,15 +5,16 @@ ghost use Rattle.std.specs.Arc.{arc_value};
 ghost use Rattle.std.specs.Bool.{OnTrue};
 ghost use Rattle.std.specs.Option.{option_map};
 ghost use Rattle.std.proofs.Props.{props};
-ghost use Rattle.guest_mem.specs.Memory.{IsPage, bytes_for, number, put_all};
+ghost use Rattle.guest_mem.specs.Memory.{IsCode, bytes_for, number, put_all};
 ghost use Rattle.guest_mem.specs.Break.{with_zeros, without, room_pages, max_pages};
 ghost use Rattle.guest_mem.specs.inside.PageStore.{shown};
 ghost use Rattle.guest_mem.specs.inside.Pages.{IsPageTable, mapped_cells, numbers};
-ghost use Rattle.guest_mem.specs.inside.Slots.{fixed_numbers};
+ghost use Rattle.guest_mem.specs.inside.Slots.{AreBelow, fixed_numbers};
 ghost use Rattle.elf_load.specs.Places.{page_numbers, place_of};
 ghost use Rattle.elf_load.specs.Room.{page_size};
 
 use crate::Bad;
+use crate::code::CodePage;
 use crate::hint::FetchHint;
 use crate::pages::Pages;
 use crate::right::Right;
@@ -27,12 +28,14 @@ pub(crate) const STACK_FIRST: u32 = 0xBFF00;
 pub(crate) const STACK_PAGES: u32 = 256;
 
 /// The pages of the image, which its index finds, behind them those of the stack, whose numbers rise from `STACK_FIRST` on,
-/// and behind these those of the heap, whose numbers rise from `heap` on. The first `fixed` pages stay mapped.
+/// and behind these those of the heap, whose numbers rise from `heap` on. Those of the image are below it. The first `fixed` pages
+/// stay mapped.
 #[derive(Drop)]
 pub(crate) struct PageTable {
     pub pages: Pages,
     pub fixed: usize,
     pub heap: u32,
+    ghost low: { AreBelow (arc_value pages.shared) heap } by { Prim.hlevel props },
     ghost stay: { fixed ≡ length (fixed_numbers (arc_value pages.shared)) },
     ghost sound: { IsPageTable (fixed_numbers (arc_value pages.shared)) (numbers (shown pages)) heap } by { Prim.hlevel props },
 }
@@ -44,6 +47,7 @@ impl PageTable {
     pub fn new(pages: Pages, heap: u32) -> PageTable
         requires listed { numbers (shown pages) ≡ fixed_numbers (arc_value pages.shared) }
         requires bounded { heap ≤ room_pages }
+        requires low { AreBelow (arc_value pages.shared) heap }
         requires apart { (n : ℕ) → heap ≤ n → n < room_pages → place_of (numbers (shown pages)) n ≡ None }
         ensures pages { shown result.pages ≡ shown pages }
         ensures fixed { result.fixed ≡ pages.count }
@@ -60,6 +64,9 @@ impl PageTable {
         requires { number < 2 ^ 20 }
         ensures { result ≡ place_of (numbers (shown self.now.pages)) number }
     {
+        if number >= self.heap {
+            return self.place_behind(number);
+        }
         match self.pages.shared.place_of(number) {
             Some(place) => Some(place),
             None => self.place_behind(number),
@@ -117,17 +124,19 @@ impl PageTable {
         }
     }
 
-    /// The bytes of the page with this number, where it has the right. The page at the hint's place is tried first, and the
-    /// hint is the page's that was found.
+    /// The page with this number, where it may be executed and not written, and never was, apart from this table. The page at the hint's
+    /// place is tried first, and the hint is the page's that was found.
     #[inline]
-    pub fn page(&self, right: Right, number: u32, hint: &mut FetchHint) -> Option<&[u8]>
+    pub fn code_page(&self, number: u32, hint: &mut FetchHint) -> Option<CodePage>
         requires { number < 2 ^ 20 }
-        ensures { MatchOption result ((bytes : List ℕ) → ¬ (IsPage right (mapped_cells (shown self.now.pages)) number bytes))
-            (λ page. IsPage right (mapped_cells (shown self.now.pages)) number page.now) }
+        ensures { IfSome result (λ page. IsCode (mapped_cells (shown self.now.pages)) number page) }
     {
-        let at = PAGE_SIZE * number;
-        let found = self.hinted_place(at / PAGE_SIZE, hint);
-        match self.within_page(right, found, at, PAGE_SIZE as usize) {
+        let place = self.hinted_place(number, hint)?;
+        let rights = self.pages.rights(place);
+        if !rights.execute || rights.write {
+            return None;
+        }
+        match self.pages.apart(place) {
             Some(page) => Some(page),
             None => None,
         }

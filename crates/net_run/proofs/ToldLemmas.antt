@@ -15,7 +15,7 @@ use Rattle.host_link.specs.declared.line.Line.{Line}
 use Rattle.host_rows.specs.declared.row.Row.{Row}
 use Rattle.out_text.specs.Files.{state_line}
 use Rattle.out_text.specs.Summary.{is_send, is_lost, is_recv, acts_counted, summary_of}
-use Rattle.out_text.specs.declared.log.LogLine.{LogLine}
+use Rattle.out_text.specs.Log.{LogLine}
 use Rattle.net_run.specs.Grown.{HaveOwnFiles}
 use Rattle.run_files.specs.Listed.{HostNames, HasIds, listed, listed_process, by_process, by_host}
 use Rattle.host_state.specs.Gains.{names_in}

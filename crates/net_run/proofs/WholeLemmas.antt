@@ -13,8 +13,7 @@ use Rattle.host_link.specs.declared.line.Line.{Line}
 use Rattle.host_rows.specs.declared.row.ProcessRow.{ProcessRow}
 use Rattle.out_text.specs.Files.{state_text, process_text}
 use Rattle.out_text.specs.Faults.{unmet_line}
-use Rattle.out_text.specs.Log.{log_line}
-use Rattle.out_text.specs.declared.log.LogLine.{LogLine}
+use Rattle.out_text.specs.Log.{LogLine, log_line}
 use Rattle.pcap_text.specs.Writing.{head}
 use Rattle.run_files.specs.Captured.{all_captures, no_head}
 use Rattle.host_state.specs.Gains.{AreGained, names_in}

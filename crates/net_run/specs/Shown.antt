@@ -9,10 +9,9 @@ use Rattle.host_link.specs.declared.line.Line.{Line}
 use Rattle.host_rows.specs.declared.row.ProcessRow.{ProcessRow}
 use Rattle.out_text.specs.Faults.{note_line, unmet_line}
 use Rattle.out_text.specs.Files.{file_name, state_line, state_text, process_text}
-use Rattle.out_text.specs.Log.{log_line}
+use Rattle.out_text.specs.Log.{LogLine, log_line}
 use Rattle.out_text.specs.Summary.{summary_of, summary_line}
 use Rattle.out_text.specs.declared.files.FileKind.TheVariants as kind
-use Rattle.out_text.specs.declared.log.LogLine.{LogLine}
 use Rattle.out_text.specs.declared.summary.Summary.{Summary}
 use Rattle.pcap_text.specs.Writing.{head}
 use Rattle.run_files.specs.Captured.{all_captures}

@@ -1,3 +1,5 @@
+pub mod Addresses
 pub mod Cuts
+pub mod LineWords
 pub mod Words
 pub mod TextLaws

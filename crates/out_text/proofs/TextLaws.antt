@@ -12,9 +12,8 @@ use Rattle.sim_base.specs.declared.time.Time.{Time}
 use Rattle.sim_base.specs.declared.packet.Load.TheVariants.{Udp, Tcp}
 use Rattle.out_text.specs.Files.{file_name, file_suffix}
 use Rattle.out_text.specs.Laws.{lacks, FitsLoad, IsLogged, SameLoad, TellsSame}
-use Rattle.out_text.specs.Log.{flags_word, segment_words, log_words, log_line}
+use Rattle.out_text.specs.Log.{LogLine, flags_word, segment_words, log_words, log_line}
 use Rattle.out_text.specs.declared.files.FileKind.{FileKind}
-use Rattle.out_text.specs.declared.log.LogLine.{LogLine}
 use Rattle.out_text.proofs.Cuts.{Lack, cut_at_first, cut_at_last, same_words}
 use Rattle.out_text.proofs.Words.{decimal_lacks, addr_lacks_space, same_addr, same_act, act_lacks_space, protocol_lacks_space, flags_lack_space, same_flags, kind_word, kind_lacks_dot, suffix_is, same_kind}
 

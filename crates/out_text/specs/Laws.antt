@@ -6,8 +6,7 @@ use Rattle.sim_base.specs.Packet.{packet_size, syn_flag, ack_flag, fin_flag, rst
 use Rattle.sim_base.specs.declared.address.Addr.{Addr}
 use Rattle.sim_base.specs.declared.packet.Load.{Load}
 use Rattle.sim_base.specs.declared.packet.Load.TheVariants.{Udp, Tcp}
-use Rattle.out_text.specs.Log.{is_set}
-use Rattle.out_text.specs.declared.log.LogLine.{LogLine}
+use Rattle.out_text.specs.Log.{LogLine, is_set}
 
 -- the text doesn't have this byte
 abbrev pub lacks : ℕ → List ℕ → Bool

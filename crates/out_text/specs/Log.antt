@@ -10,7 +10,14 @@ use Rattle.sim_base.specs.declared.packet.Load.{Load}
 use Rattle.sim_base.specs.declared.packet.Load.TheVariants.{Udp, Tcp}
 use Rattle.sim_base.specs.declared.packet.Packet.{Packet}
 use Rattle.out_text.specs.Address.{addr_text}
-use Rattle.out_text.specs.declared.log.LogLine.{LogLine}
+use Rattle.sim_base.specs.declared.time.Time.{Time}
+
+-- what happened to a packet, when, and the name of the host where it did
+pub record LogLine : Type 0 where
+  pub time : Time
+  pub host : List ℕ
+  pub act : Act
+  pub packet : Packet
 
 -- what happened
 abbrev pub act_word : Act → List ℕ

@@ -4,7 +4,7 @@ use Rattle.std.specs.Fmt.{decimal}
 use Rattle.sim_base.specs.Units.{max_u64}
 use Rattle.sim_base.specs.declared.act.Act.{Act}
 use Rattle.sim_base.specs.declared.act.Act.TheVariants.{Send, Lost, Recv}
-use Rattle.out_text.specs.declared.log.LogLine.{LogLine}
+use Rattle.out_text.specs.Log.{LogLine}
 use Rattle.out_text.specs.declared.summary.Summary.{Summary}
 
 abbrev pub is_send : Act → Bool

@@ -3,7 +3,8 @@
 ghost use Rattle.std.specs.Prelude.{◌≡◌, ◌++◌, OnOk, OnErr};
 ghost use Rattle.out_text.specs.Captured.{packet_line, cut_line};
 
-use crate::log::ShownPacket;
+use crate::log::push_packet;
+use crate::pushed::push_number;
 use base_texts::Text;
 use sim_base::{NoMemory, Packet, Time};
 use std::alloc::Global;
@@ -18,9 +19,11 @@ pub fn packet_line(
     ensures ok { OnOk result (into.new ≡ into.old ++ packet_line time packet.now) }
     ensures err { OnErr result (into.new ≡ into.old) }
 {
-    let time = time.nanos;
-    let packet = ShownPacket(packet);
-    let line = format!(in alloc; "{time} {packet}\n")?;
+    let mut line = Text::new(alloc);
+    push_number(&mut line, time.nanos)?;
+    line.push_str(" ")?;
+    push_packet(&mut line, packet)?;
+    line.push_str("\n")?;
     into.push_str(line.as_str())
 }
 

@@ -5,9 +5,8 @@ ghost use Rattle.std.specs.Prelude.{◌≡◌, ℕ, ◌<◌, ◌^◌, List, IsTr
 ghost use Rattle.sim_base.specs.Ascii.{slash};
 ghost use Rattle.out_text.specs.Files.{file_name};
 ghost use Rattle.out_text.specs.Laws.{lacks, IsLogged, TellsSame};
-ghost use Rattle.out_text.specs.Log.{log_line};
+ghost use Rattle.out_text.specs.Log.{LogLine, log_line};
 ghost use Rattle.out_text.specs.declared.files.FileKind.{FileKind};
-ghost use Rattle.out_text.specs.declared.log.LogLine.{LogLine};
 
 /// Lines of the packet log that have the same text tell the same, where names of hosts have no space.
 pub fn one_line()

@@ -1,47 +1,40 @@
 //! The packet log.
 
-ghost use Rattle.std.specs.Prelude.{◌≡◌, ◌++◌, Some, OnOk, OnErr};
+ghost use Rattle.std.specs.Prelude.{◌≡◌, ◌++◌, OnOk, codes};
+ghost use Rattle.std.specs.Fmt.{decimal};
 ghost use Rattle.std.specs.List.{join_with_byte};
 ghost use Rattle.sim_base.specs.Ascii.{space};
-ghost use Rattle.out_text.specs.Log.{act_word, protocol_word, is_set, letter, flags_word, packet_words, log_words, log_line};
+ghost use Rattle.sim_base.specs.Packet.{packet_size};
+ghost use Rattle.out_text.specs.Address.{addr_text};
+ghost use Rattle.out_text.specs.Log.{act_word, protocol_word, is_set, letter, flags_word, packet_words, log_line};
 
-use crate::address::ShownAddr;
-use base_texts::{Name, Text};
+use crate::pushed::{push_addr, push_number};
+use base_texts::Text;
 use sim_base::{ACK, Act, FIN, Load, NoMemory, Packet, RST, SYN, Time};
-use std::alloc::Global;
-use std::fmt;
 
-/// What happened to a packet, when and at which host. The log has one line for each.
-#[derive(Clone, Drop)]
-pub struct LogLine {
-    pub time: Time,
-    pub host: Name,
-    pub act: Act,
-    pub packet: Packet,
-}
-
-/// The word of an act.
+/// The word of an act, with a space on either side.
 fn word(act: Act) -> &'static str
-    ensures { result.now ≡ act_word act }
+    ensures { result.now ≡ codes " " ++ act_word act ++ codes " " }
 {
     match act {
-        Act::Send => "send",
-        Act::Lost => "lost",
-        Act::FullUp => "fullup",
-        Act::FullDown => "fulldown",
-        Act::Recv => "recv",
-        Act::SockFull => "sockfull",
-        Act::NoPort => "noport",
-        Act::Codel => "codel",
+        Act::Send => " send ",
+        Act::Lost => " lost ",
+        Act::FullUp => " fullup ",
+        Act::FullDown => " fulldown ",
+        Act::Recv => " recv ",
+        Act::SockFull => " sockfull ",
+        Act::NoPort => " noport ",
+        Act::Codel => " codel ",
     }
 }
 
+/// The word of a protocol, with a space behind it.
 fn protocol(load: &Load) -> &'static str
-    ensures { result.now ≡ protocol_word load.now }
+    ensures { result.now ≡ protocol_word load.now ++ codes " " }
 {
     match load {
-        Load::Udp(_) => "udp",
-        Load::Tcp { .. } => "tcp",
+        Load::Udp(_) => "udp ",
+        Load::Tcp { .. } => "tcp ",
     }
 }
 
@@ -58,67 +51,77 @@ fn letter(flags: u8, flag: u8, name: &'static str) -> &'static str
     if is_set(flags, flag) { name } else { "" }
 }
 
-/// The flags of a segment, which are written as the letters of those that are set, or a dash.
-#[derive(Clone, Copy)]
-struct ShownFlags(u8);
-
-impl fmt::Display for ShownFlags {
-    ghost output = { λ shown. Some (flags_word shown.0) };
-
-    fn fmt<W: fmt::Write>(&self, f: &mut fmt::Formatter<W>) -> fmt::Result {
-        let flags = self.0;
-        if !is_set(flags, SYN + ACK + FIN + RST) {
-            return f.write_str("-");
-        }
-        let (syn, ack) = (letter(flags, SYN, "S"), letter(flags, ACK, "A"));
-        let (fin, rst) = (letter(flags, FIN, "F"), letter(flags, RST, "R"));
-        write!(f, "{syn}{ack}{fin}{rst}")
-    }
-}
-
-/// A packet, which is written as its words.
-#[derive(Clone, Copy)]
-pub struct ShownPacket<'a>(pub &'a Packet);
-
-impl fmt::Display for ShownPacket<'_> {
-    ghost output = { λ shown. Some (join_with_byte space (packet_words shown.0.now)) };
-
-    fn fmt<W: fmt::Write>(&self, f: &mut fmt::Formatter<W>) -> fmt::Result {
-        let packet = self.0;
-        let protocol = protocol(&packet.load);
-        let (from, to) = (ShownAddr(packet.from), ShownAddr(packet.to));
-        let size = packet.size();
-        match &packet.load {
-            Load::Udp(_) => write!(f, "{protocol} {from} {to} {size}"),
-            Load::Tcp {
-                flags,
-                seq,
-                ack,
-                ..
-            } => {
-                let flags = ShownFlags(*flags);
-                write!(f, "{protocol} {from} {to} {size} {flags} {seq} {ack}")
-            }
-        }
-    }
-}
-
-/// The line without its end.
-impl fmt::Display for LogLine {
-    ghost output = { λ line. Some (join_with_byte space (log_words line)) };
-
-    fn fmt<W: fmt::Write>(&self, f: &mut fmt::Formatter<W>) -> fmt::Result {
-        let (time, host, act) = (self.time.nanos, self.host.as_str(), word(self.act));
-        let packet = ShownPacket(&self.packet);
-        write!(f, "{time} {host} {act} {packet}")
-    }
-}
-
-/// Adds a line of the packet log, or leaves the text as it was.
-pub fn log_line(alloc: Global, into: &mut Text, line: &LogLine) -> Result<(), NoMemory>
-    ensures ok { OnOk result (into.new ≡ into.old ++ log_line line.now) }
-    ensures err { OnErr result (into.new ≡ into.old) }
+/// Adds the flags of a segment: the letters of those that are set, or a dash.
+fn push_flags(into: &mut Text, flags: u8) -> Result<(), NoMemory>
+    ensures { OnOk result (into.new ≡ into.old ++ flags_word flags) }
 {
-    let line = format!(in alloc; "{line}\n")?;
-    into.push_str(line.as_str())
+    if !is_set(flags, SYN + ACK + FIN + RST) {
+        return into.push_str("-");
+    }
+    into.push_str(letter(flags, SYN, "S"))?;
+    into.push_str(letter(flags, ACK, "A"))?;
+    into.push_str(letter(flags, FIN, "F"))?;
+    into.push_str(letter(flags, RST, "R"))
+}
+
+/// Adds what the words of a segment have behind those of a datagram.
+fn push_segment(into: &mut Text, flags: u8, seq: u32, ack: u32) -> Result<(), NoMemory>
+    ensures { OnOk result (into.new ≡ into.old ++ (codes " " ++ (flags_word flags ++ (codes " " ++ (decimal seq ++ (codes " " ++ decimal ack)))))) }
+{
+    into.push_str(" ")?;
+    push_flags(into, flags)?;
+    into.push_str(" ")?;
+    push_number(into, u64::from(seq))?;
+    into.push_str(" ")?;
+    push_number(into, u64::from(ack))
+}
+
+/// Adds the words that each packet has: PROTO SRC DST SIZE.
+fn push_ends(into: &mut Text, packet: &Packet) -> Result<(), NoMemory>
+    ensures { OnOk result (into.new ≡ into.old ++ (protocol_word packet.now.load ++ (codes " " ++ (addr_text packet.now.from
+        ++ (codes " " ++ (addr_text packet.now.to ++ (codes " " ++ decimal (packet_size packet.now)))))))) }
+{
+    into.push_str(protocol(&packet.load))?;
+    push_addr(into, packet.from)?;
+    into.push_str(" ")?;
+    push_addr(into, packet.to)?;
+    into.push_str(" ")?;
+    push_number(into, packet.size())
+}
+
+/// Adds the words of a packet.
+pub(crate) fn push_packet(into: &mut Text, packet: &Packet) -> Result<(), NoMemory>
+    ensures { OnOk result (into.new ≡ into.old ++ join_with_byte space (packet_words packet.now)) }
+{
+    push_ends(into, packet)?;
+    match &packet.load {
+        Load::Udp(_) => Ok(()),
+        Load::Tcp {
+            flags,
+            seq,
+            ack,
+            ..
+        } => {
+            push_segment(into, *flags, *seq, *ack)?;
+            Ok(())
+        }
+    }
+}
+
+/// Adds the line of what happened to a packet, when and at the host of this name. Where memory is wanting, a part of it may stand.
+pub fn log_line(
+    into: &mut Text,
+    time: Time,
+    host: &str,
+    act: Act,
+    packet: &Packet,
+) -> Result<(), NoMemory>
+    ensures { OnOk result (into.new ≡ into.old ++ log_line (record { time = time; host = host.now; act = act; packet = packet.now })) }
+{
+    push_number(into, time.nanos)?;
+    into.push_str(" ")?;
+    into.push_str(host)?;
+    into.push_str(word(act))?;
+    push_packet(into, packet)?;
+    into.push_str("\n")
 }

@@ -11,9 +11,8 @@ use Rattle.run_files.specs.Listed.{HostNames, by_process, by_host}
 use Rattle.run_files.specs.declared.listed.ProcessListing.{ProcessListing}
 use Rattle.host_link.specs.declared.line.Line.{Line}
 use Rattle.out_text.specs.Files.{file_name}
-use Rattle.out_text.specs.Log.{log_line}
+use Rattle.out_text.specs.Log.{LogLine, log_line}
 use Rattle.out_text.specs.declared.files.FileKind.TheVariants as kind
-use Rattle.out_text.specs.declared.log.LogLine.{LogLine}
 
 -- what process p of a host wrote to its standard output and error, each in its file
 abbrev pub process_grown : List ℕ → List Output → ℕ → ProcessListing → List Put

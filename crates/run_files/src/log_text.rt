@@ -1,6 +1,6 @@
 //! The text of the packet log. That of many lines is made by several threads side by side.
 
-ghost use Rattle.std.specs.Prelude.{◌≡◌, ◌<◌, IfOk, map, flat_map, slice_get};
+ghost use Rattle.std.specs.Prelude.{◌≡◌, ◌<◌, ◌++◌, IfOk, OnOk, map, flat_map, slice_get};
 ghost use Rattle.out_text.specs.Log.{log_line};
 ghost use Rattle.host_link.specs.Logs.{kept_lines};
 ghost use Rattle.run_files.specs.Grown as spec;
@@ -8,9 +8,9 @@ ghost use Rattle.run_files.specs.Listed.{said};
 ghost use Rattle.run_files.specs.inside.Shares.{AreJoined, lines_in};
 
 use crate::listed::HostListing;
-use base_texts::{Name, Text};
+use base_texts::Text;
 use host_link::{Line, Logged};
-use out_text::LogLine;
+use out_text::log_line;
 use sim_base::NoMemory;
 use std::alloc::Global;
 use std::mem;
@@ -29,23 +29,17 @@ fn host_name(hosts: &[HostListing], number: u32) -> &str
     }
 }
 
-/// A line with the name of its host.
-fn told_line(alloc: Global, hosts: &[HostListing], line: Logged) -> Result<LogLine, NoMemory>
-    ensures { IfOk result (λ l. l ≡ spec.told_line (map said hosts.now) line.line) }
+/// Adds a line with the name of its host.
+fn push_line(text: &mut Text, hosts: &[HostListing], line: &Line) -> Result<(), NoMemory>
+    ensures { OnOk result (text.new ≡ text.old ++ log_line (spec.told_line (map said hosts.now) line.now)) }
 {
-    let Line {
-        time,
-        host,
-        act,
-        packet,
-    } = line.line;
-    let host = Name::from_str(alloc, host_name(hosts, host.index))?;
-    Ok(LogLine {
-        time,
-        host,
-        act,
-        packet,
-    })
+    log_line(
+        text,
+        line.time,
+        host_name(hosts, line.host.index),
+        line.act,
+        &line.packet,
+    )
 }
 
 /// Room for so many bytes is taken for each line, which few of them need more than.
@@ -55,12 +49,11 @@ const LINE_ROOM: usize = 80;
 fn lines_text(alloc: Global, hosts: &[HostListing], lines: Vec<Logged>) -> Result<Text, NoMemory>
     ensures { IfOk result (λ text. text ≡ flat_map log_line (map (spec.told_line (map said hosts.now)) (kept_lines lines.items))) }
 {
-    let mut text = String::with_capacity(alloc, lines.len().saturating_mul(LINE_ROOM))?;
+    let mut text = Text::from(String::with_capacity(alloc, lines.len().saturating_mul(LINE_ROOM))?);
     for line in lines {
-        let line = told_line(alloc, hosts, line)?;
-        write!(text, "{line}\n")?;
+        push_line(&mut text, hosts, &line.line)?;
     }
-    Ok(Text::from(text))
+    Ok(text)
 }
 
 /// Lines in about so many shares, one behind another.

@@ -3,3 +3,4 @@ pub mod TurnSteps
 pub mod TurnLaws
 mod Values
 pub mod Rows
+pub mod StoreSteps

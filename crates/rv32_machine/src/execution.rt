@@ -1,12 +1,12 @@
 //! One instruction.
 
-ghost use Rattle.std.specs.Prelude.{◌≡◌, Some, None, IfSome, MatchResult, OnOk, OnErr};
-ghost use Rattle.std.specs.Bool.{OnTrue};
-ghost use Rattle.guest_mem.specs.Memory.{Memory, load as load_of};
+ghost use Rattle.std.specs.Prelude.{◌≡◌, ℕ, List, Some, None, IfSome, MatchResult, OnOk, OnErr};
+ghost use Rattle.std.specs.Bool.{OnTrue, OnFalse};
+ghost use Rattle.guest_mem.specs.Memory.{Memory, IsCode, load as load_of};
 ghost use Rattle.guest_mem.specs.declared.right.Right.TheVariants as right;
 ghost use Rattle.rv32_machine.specs.Encoding.{decoded};
 ghost use Rattle.rv32_machine.specs.Table.{insn, effect, executed, state, after, jumps, sets, following, loaded, stored};
-ghost use Rattle.rv32_machine.specs.Word.{opcode};
+ghost use Rattle.rv32_machine.specs.declared.outcome.Outcome.TheVariants as outcome;
 ghost use Rattle.elf_load.specs.Room.{instruction_size};
 
 use crate::arithmetic::{is_taken, value};
@@ -16,9 +16,10 @@ use crate::encoding::decode;
 use crate::instruction::{Insn, Load, Store};
 use crate::outcome::Outcome;
 use crate::word::{
-    b_immediate, byte_extended, funct3, half_extended, i_immediate, is_aligned, j_immediate, rd,
-    rs1, rs2, s_immediate, u_immediate,
+    b_immediate, byte_extended, funct3, half_extended, i_immediate, is_aligned, j_immediate,
+    opcode, rd, rs1, rs2, s_immediate, u_immediate,
 };
+use guest_mem::laws::stores_leave_code;
 use guest_mem::{Bad, FetchHint, Mem};
 use sim_base::Signal;
 
@@ -35,40 +36,53 @@ pub fn step(cpu: &mut Cpu, mem: &mut Mem) -> Outcome
     }
 }
 
-/// The same, where the word may have been fetched before, and may be known to be a store.
+/// The same, where the word may have been fetched before.
 #[inline(always)]
 #[tactic(auto, unfolding(crate::specs::Table::insn))]
-pub(crate) fn step_fetched(
-    fetched: Option<u32>,
-    is_store: bool,
-    cpu: &mut Cpu,
-    mem: &mut Mem,
-) -> Outcome
-    requires fetched { IfSome fetched (λ word. load_of right.Execute instruction_size mem.old cpu.old.pc ≡ Some word) }
-    requires store { OnTrue is_store (IfSome fetched (λ word. opcode word ≡ 0x23)) }
+pub(crate) fn step_fetched(fetched: Option<u32>, cpu: &mut Cpu, mem: &mut Mem) -> Outcome
+    requires { IfSome fetched (λ word. load_of right.Execute instruction_size mem.old cpu.old.pc ≡ Some word) }
     ensures { insn (state cpu.old mem.old) ≡ after cpu.new mem.new result }
 {
     match fetched {
-        Some(word) => if is_store {
-            run_store(word, cpu, mem)
-        } else {
-            run_word(word, cpu, mem)
-        },
+        Some(word) => run_word(word, cpu, mem),
         None => step(cpu, mem),
     }
 }
 
-/// Runs the instruction that the word is, which is a store if any.
+/// Runs the instruction that the word is, where it is a store that doesn't trap. It answers whether it ran; where it didn't, nothing
+/// changes.
 #[inline(always)]
-fn run_store(word: u32, cpu: &mut Cpu, mem: &mut Mem) -> Outcome
-    requires { opcode word ≡ 0x23 }
-    ensures { executed (decoded word) word (state cpu.old mem.old) ≡ after cpu.new mem.new result }
+pub(crate) fn run_store(word: u32, cpu: &mut Cpu, mem: &mut Mem) -> bool
+    ensures ran { OnTrue result (executed (decoded word) word (state cpu.old mem.old) ≡ after cpu.new mem.new outcome.Next) }
+    ensures code { (number : ℕ) (bytes : List ℕ) → IsCode mem.old.cells number bytes → IsCode mem.new.cells number bytes }
+    ensures unchanged { OnFalse result ((cpu.new ≡ cpu.old) × (mem.new ≡ mem.old)) }
 {
+    if opcode(word) != 0x23 {
+        return false;
+    }
     match funct3(word) {
-        0 => store_from(Store::Sb, word, cpu, mem),
-        1 => store_from(Store::Sh, word, cpu, mem),
-        2 => store_from(Store::Sw, word, cpu, mem),
-        _ => Outcome::Trap(Signal::SigIll),
+        0 => stored(Store::Sb, word, cpu, mem),
+        1 => stored(Store::Sh, word, cpu, mem),
+        2 => stored(Store::Sw, word, cpu, mem),
+        _ => false,
+    }
+}
+
+/// Opcode STORE.
+#[inline(always)]
+fn stored(kind: Store, word: u32, cpu: &mut Cpu, mem: &mut Mem) -> bool
+    ensures ran { OnTrue result (effect (Insn.Store kind) word (state cpu.old mem.old) ≡ after cpu.new mem.new outcome.Next) }
+    ensures code { (number : ℕ) (bytes : List ℕ) → IsCode mem.old.cells number bytes → IsCode mem.new.cells number bytes }
+    ensures unchanged { OnFalse result ((cpu.new ≡ cpu.old) × (mem.new ≡ mem.old)) }
+{
+    stores_leave_code();
+    let address = cpu.register(rs1(word)).wrapping_add(s_immediate(word));
+    match store(kind, mem, address, cpu.register(rs2(word))) {
+        Ok(()) => {
+            cpu.go_on();
+            true
+        }
+        Err(_) => false,
     }
 }
 

@@ -39,7 +39,7 @@ pub fn turn<L: Ledger>(cpu: &mut Cpu, mem: &mut Mem, budget: u64, steps: &mut St
         steps.tick();
         steps.tell(1);
         ran += 1;
-        match step_fetched(ahead.next, ahead.is_store, cpu, mem) {
+        match step_fetched(ahead.next, cpu, mem) {
             Outcome::Next => {}
             Outcome::Call => return TurnEnd::Call,
             Outcome::Trap(signal) => return TurnEnd::Trap(signal),

@@ -16,7 +16,7 @@ use Rattle.host_state.specs.World.{World}
 use Rattle.run_files.specs.declared.listed.Listing.{Listing}
 use Rattle.host_link.specs.declared.line.Line.{Line}
 use Rattle.out_text.specs.Summary.{is_send, is_lost, is_recv, acts_counted, summary_of}
-use Rattle.out_text.specs.declared.log.LogLine.{LogLine}
+use Rattle.out_text.specs.Log.{LogLine}
 use Rattle.out_text.specs.declared.summary.Summary.{Summary}
 use Rattle.net_run.specs.Grown.{IsUnderway}
 use Rattle.run_files.specs.Listed.{HostNames, HasIds, listed, listed_process, names_of}

@@ -1,9 +1,9 @@
 -- Which pages stay mapped, and where the bytes of pages stand: in slots of page_size bytes. The first of them are shared by all guests of an image: one
 -- that is all zeros, and one for each page of the image. Those behind them are each one page's own.
-use Rattle.std.specs.Prelude.{◌≡◌, ℕ, ◌+◌, ◌*◌, ◌/◌, ◌<◌, ◌≤◌, List, [], ◌∷◌, ◌++◌, map, flat_map, length, take, drop, slice_index, if◌then◌else◌, nat_lt}
+use Rattle.std.specs.Prelude.{◌≡◌, ℕ, ◌+◌, ◌*◌, ◌/◌, ◌<◌, ◌≤◌, List, [], ◌∷◌, ◌++◌, map, flat_map, length, take, drop, slice_index, None, if◌then◌else◌, nat_lt}
 use Rattle.std.specs.List.{range_with_len}
 use Rattle.elf_load.specs.declared.shared.SharedPages.{SharedPages}
-use Rattle.elf_load.specs.Places.{page_numbers}
+use Rattle.elf_load.specs.Places.{page_numbers, place_of}
 use Rattle.elf_load.specs.Room.{page_size}
 use Rattle.guest_mem.specs.declared.entry.Entry.{Entry}
 use Rattle.guest_mem.specs.Break.{max_pages}
@@ -17,6 +17,10 @@ stack_first = stack_base / page_size
 -- the numbers of the pages that stay mapped: those of the image, and behind them those of the stack
 abbrev pub fixed_numbers : SharedPages → List ℕ
 fixed_numbers shared = page_numbers shared.pages.items ++ range_with_len stack_first stack_pages
+
+-- the pages of an image have numbers below this one
+abbrev pub AreBelow : SharedPages → ℕ → Type 0
+AreBelow shared first = (n : ℕ) → first ≤ n → place_of (page_numbers shared.pages.items) n ≡ None
 
 -- the bytes of the shared slots
 unfoldable pub shared_bytes : SharedPages → List ℕ

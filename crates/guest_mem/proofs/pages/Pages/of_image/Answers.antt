@@ -13,7 +13,10 @@ pub invariant_of-result : goal.invariant_of-result
 invariant_of-result c =
     let s : SharedPages = arc_value c.args.shared in
     let count : c.len-count.result ≡ vec_len s.pages = c.len-count.ensures ∙ ap (λ (x : SharedPages). vec_len x.pages) c.deref.ensures in
+    let own : arc_value (arc_value c.in_ok-own_shared.own_shared) ≡ s = rw c.in_ok-own_shared.ensures.ok c.in_ok-own.ensures in
     record {
+      same = ap shared_bytes own;
+      as_many = ap (λ (x : SharedPages). vec_len x.pages) own;
       shares = ap (λ (n : ℕ). n + 1) count;
       sound = begun s _ c.in_ok-bytes.bytes.items c.len-count.result _
           (c.in_ok-entries.ensures.slots ∙ ap (λ (x : SharedPages). range_with_len 1 (vec_len x.pages)) c.deref-2.ensures ∙ ap (range_with_len 1) (sym count))

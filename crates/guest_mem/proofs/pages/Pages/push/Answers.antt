@@ -12,6 +12,8 @@ invariant_of-self c =
     let p : Pages = c.args.self.now in
     let all : p.count ≡ length p.entries.items = omega (arith, c.if-self-len.false, c.len.ensures, p.sound.within, p.entries.ok.0, length-map p.entries.items (λ (e : Entry). e.slot)) in
     record {
+      same = p.same;
+      as_many = p.as_many;
       shares = p.shares;
       sound = rw c.push_reserved.ensures.items (pushed_kept p.entries.items p.count p.first_own (all_bytes p) _ p.sound _ all c.requires.few refl (omega (arith, c.requires.room.bytes)));
     }

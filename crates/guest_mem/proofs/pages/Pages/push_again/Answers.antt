@@ -44,6 +44,8 @@ invariant_of-self-2 c =
     let new : List ℕ = c.clear.new.bytes.items in
     let at : p.count < length p.entries.items = omega (arith, c.requires.behind, p.entries.ok.0) in
     record {
+      same = p.same;
+      as_many = p.as_many;
       shares = p.shares;
       sound = again_kept p.entries.items p.count p.first_own (all_bytes p) _ p.sound (shared_bytes (arc_value p.shared) ++ new) _ _ (omega (arith, c.clear.ensures.room)) at
           (long_changed p new (omega (arith, c.clear.ensures.len, p.bytes.ok.0, c.clear.new.bytes.ok.0))) (slot_is p e at c.index.ensures) c.if-slot-self.false

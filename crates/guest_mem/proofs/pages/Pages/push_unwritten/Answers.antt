@@ -8,7 +8,7 @@ pub invariant_of-self : goal.invariant_of-self
 invariant_of-self c =
     let p : Pages = c.args.self.now in
     let at : p.count < length p.entries.items = omega (arith, c.requires.behind, p.entries.ok.0) in
-    record { shares = p.shares; sound = again_shared_kept p.entries.items p.count p.first_own (all_bytes p) _ p.sound _ at c.requires.shared refl }
+    record { same = p.same; as_many = p.as_many; shares = p.shares; sound = again_shared_kept p.entries.items p.count p.first_own (all_bytes p) _ p.sound _ at c.requires.shared refl }
 
 pub returns-clause-pushed : goal.returns-clause-pushed
 returns-clause-pushed c =

@@ -61,6 +61,8 @@ invariant_of-self c =
     let e : Entry = c.index.result.now in
     let part : List ℕ = c.shared_slot-was.result.now in
     record {
+      same = p.same;
+      as_many = p.as_many;
       shares = p.shares;
       sound = taken_kept p.entries.items p.count p.first_own (all_bytes p) _ p.sound _ part c.args.place _ _ (within_entries p c.args.place c.requires.place)
           (with_part p c.args.place e c.requires.place c.requires.shared c.index.ensures c.deref.result.now part c.extend_from_slice.new.self.items c.deref.ensures c.shared_slot-was.ensures c.in-Ok.ensures.items)

@@ -33,6 +33,8 @@ invariant_of-self c =
     let q : Pages = c.own_slot-slot.new.self in
     let new : List ℕ = c.overwrite.new.bytes.items in
     record {
+      same = q.same;
+      as_many = q.as_many;
       shares = q.shares;
       sound = written_kept q.entries.items q.count q.first_own (all_bytes q) _ q.sound (shared_bytes (arc_value q.shared) ++ new) _
           (long_changed q new (omega (arith, c.overwrite.ensures.len, c.overwrite.new.bytes.ok.0, q.bytes.ok.0))) (first_changed q new) (omega (arith, c.overwrite.ensures.room));

@@ -1,8 +1,9 @@
 use Rattle.std.proofs.Common.{◌≡◌, ℕ, ◌+◌, ◌-◌, List, ◌++◌, length, sym, ap, ◌∙◌, arith, subst}
 use Rattle.std.specs.Arc.{arc_value}
+use Rattle.elf_load.specs.declared.shared.SharedPages.{SharedPages}
 use Rattle.guest_mem.specs.inside.PageStore.{shown}
 use Rattle.guest_mem.specs.inside.Pages.{GuestPage, IsPageTable, mapped_cells, numbers, zero_pages}
-use Rattle.guest_mem.specs.inside.Slots.{fixed_numbers}
+use Rattle.guest_mem.specs.inside.Slots.{AreBelow, fixed_numbers}
 use Rattle.guest_mem.proofs.HeapLemmas.{table_with_zeros, place_of_above, cells_grown, zero_pages_are}
 use Rattle.guest_mem.proofs.SlotLemmas.{length-numbers}
 use Rattle.guest_mem.proofs.table.PageTable.grow.Goals as goal
@@ -34,6 +35,7 @@ invariant_of-self-2 c =
     ∙ ap (λ (n : ℕ). ps ++ zero_pages n c.args.count) from in
     let shared : fixed_numbers (arc_value c.push_zeros.new.self.shared) ≡ front = ap fixed_numbers (c.push_zeros.ensures.shared ∙ c.in_ok-reserve.ensures.shared) in
     record {
+      low = subst (λ (s : SharedPages). AreBelow s t.heap) (sym (c.push_zeros.ensures.shared ∙ c.in_ok-reserve.ensures.shared)) t.low;
       stay = t.stay ∙ sym (ap length shared);
       sound = subst (λ (fs : List ℕ). IsPageTable fs (numbers now) t.heap) (sym shared) (table_with_zeros front ps now t.heap c.args.count is t.sound (omega (arith, c.requires.low, same, t.stay)));
     }

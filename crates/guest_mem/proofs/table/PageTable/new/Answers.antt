@@ -9,6 +9,7 @@ use Rattle.guest_mem.proofs.table.PageTable.new.Goals as goal
 
 pub invariant_of-result : goal.invariant_of-result
 invariant_of-result c = record {
+  low = c.requires.low;
   stay = c.len-fixed.ensures ∙ sym (length-numbers c.args.pages) ∙ ap length c.requires.listed;
   sound = table_new (fixed_numbers (arc_value c.args.pages.shared)) (numbers (shown c.args.pages)) c.args.heap c.requires.listed c.requires.apart c.requires.bounded;
 }

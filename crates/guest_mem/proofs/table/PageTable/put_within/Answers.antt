@@ -1,12 +1,13 @@
 use Rattle.std.proofs.Common.{◌≡◌, ℕ, ◌/◌, ◌%◌, ◌<◌, true, false, List, length, get_or, set, Some, None, refl, sym, ap, ◌∙◌, arith, subst}
 use Rattle.std.specs.Arc.{arc_value}
 use Rattle.elf_load.specs.Places.{place_of}
+use Rattle.elf_load.specs.declared.shared.SharedPages.{SharedPages}
 use Rattle.elf_load.proofs.Places.{place_of_in}
 use Rattle.guest_mem.specs.declared.right.Right.TheVariants.{Write}
 use Rattle.guest_mem.specs.Memory.{permits}
 use Rattle.guest_mem.specs.inside.PageStore.{shown}
 use Rattle.guest_mem.specs.inside.Pages.{GuestPage, IsPageTable, numbers, mapped_cells}
-use Rattle.guest_mem.specs.inside.Slots.{fixed_numbers}
+use Rattle.guest_mem.specs.inside.Slots.{AreBelow, fixed_numbers}
 use Rattle.guest_mem.proofs.PageLemmas.{within_some, within_denied, within_none, numbers_put, cells_put}
 use Rattle.guest_mem.proofs.SlotLemmas.{length-numbers, blank, length_shown_page, rewritten_set}
 use Rattle.guest_mem.proofs.table.PageTable.put_within.Goals as goal
@@ -50,6 +51,7 @@ invariant_of-self c =
     let same : numbers now ≡ numbers ps = ap numbers is ∙ numbers_put ps (c.args.at / page_size) place (c.args.at % page_size) c.args.bytes.now (get_or now place d) d found (c.write.ensures.written.here d) in
     let front : fixed_numbers (arc_value c.write.new.self.shared) ≡ fixed_numbers (arc_value t.pages.shared) = ap fixed_numbers c.write.ensures.shared in
     record {
+      low = subst (λ (s : SharedPages). AreBelow s t.heap) (sym c.write.ensures.shared) t.low;
       stay = t.stay ∙ sym (ap length front);
       sound = subst (λ (fs : List ℕ). IsPageTable fs (numbers now) t.heap) (sym front) (subst (λ (ns : List ℕ). IsPageTable (fixed_numbers (arc_value t.pages.shared)) ns t.heap) (sym same) t.sound);
     }

@@ -2,10 +2,11 @@ use Rattle.std.proofs.Common.{◌≡◌, ℕ, ◌+◌, ◌-◌, ◌*◌, List, l
 use Rattle.std.proofs.lemmas.List.{take-map}
 use Rattle.std.specs.Arc.{arc_value}
 use Rattle.elf_load.specs.Room.{page_size}
+use Rattle.elf_load.specs.declared.shared.SharedPages.{SharedPages}
 use Rattle.guest_mem.specs.Break.{without}
 use Rattle.guest_mem.specs.inside.PageStore.{shown}
 use Rattle.guest_mem.specs.inside.Pages.{mapped_cells, GuestPage, IsPageTable, numbers}
-use Rattle.guest_mem.specs.inside.Slots.{fixed_numbers}
+use Rattle.guest_mem.specs.inside.Slots.{AreBelow, fixed_numbers}
 use Rattle.guest_mem.proofs.HeapLemmas.{length_table, table_shrunk, cells_shrunk}
 use Rattle.guest_mem.proofs.SlotLemmas.{length-numbers, length_shown}
 use Rattle.guest_mem.proofs.table.PageTable.shrink.Goals as goal
@@ -21,6 +22,7 @@ invariant_of-self c =
     let shared : fixed_numbers (arc_value c.truncate.new.self.shared) ≡ front = ap fixed_numbers c.truncate.ensures.shared in
     let long : length (numbers ps) ≡ t.pages.count = length-numbers t.pages in
     record {
+      low = subst (λ (s : SharedPages). AreBelow s t.heap) (sym c.truncate.ensures.shared) t.low;
       stay = t.stay ∙ sym (ap length shared);
       sound = subst (λ (fs : List ℕ). IsPageTable fs (numbers now) t.heap) (sym shared) (subst (λ (ns : List ℕ). IsPageTable front ns t.heap) (sym kept)
           (table_shrunk front (numbers ps) t.heap t.sound k (omega (arith, c.requires, c.len.ensures, long, t.stay, length_table front (numbers ps) t.heap t.sound)) (omega (arith, c.len.ensures, long))));
