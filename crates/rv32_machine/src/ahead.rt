@@ -48,6 +48,8 @@ pub(crate) fn run_ahead<L: Ledger>(
 }
 
 /// The same, in a page with these bytes, which may not be written.
+// A function of its own, so that the loop has the processor's registers for itself.
+#[inline(never)]
 fn run_page<L: Ledger>(
     cpu: &mut Cpu,
     mem: &mut Mem,
