@@ -1,15 +1,16 @@
--- A round in which each host is run in its place is a round of all workers.
-use Rattle.std.proofs.Common.{◌≡◌, ◌≢◌, ℕ, zero, suc, ◌<◌, ◌^◌, ◌⊎◌, inl, inr, ⊎_elim, List, [], ◌∷◌, ◌++◌, Some, None, map, flat_map, length, replicate, slice_get, slice_set, get_or, refl, sym, ap, subst, ◌∙◌, append-nil, append_assoc, Vec, arith, IsPermutation, All, length-set}
+-- Hosts that one worker runs, each in its place, and rounds whose packets are in no inbox.
+use Rattle.std.proofs.Common.{◌≡◌, ◌≢◌, ℕ, zero, suc, ◌<◌, ◌^◌, ◌⊎◌, inl, inr, ⊎_elim, List, [], ◌∷◌, ◌++◌, Some, None, map, flat_map, length, replicate, slice_get, slice_set, get_or, take, ◌+◌, refl, sym, ap, subst, ◌∙◌, append-nil, append_assoc, Vec, arith, IsPermutation, All, length-set}
 use Rattle.std.specs.Prelude.{Contains, Box}
 use Rattle.std.specs.declared.alloc.Global.{Global}
-use Rattle.std.proofs.lemmas.List.{length_push}
-use Rattle.std.proofs.lemmas.List.Elements.{Contains-get_or}
+use Rattle.std.proofs.lemmas.List.{length_push, take_more}
+use Rattle.std.proofs.lemmas.List.Elements.{All-append, Contains-get_or}
 use Rattle.std.proofs.lemmas.List.Sorted.{IsPermutation-refl}
 use Rattle.sim_base.specs.declared.event.Event.{Event}
 use Rattle.sim_base.specs.declared.event.Parcel.{Parcel}
 use Rattle.sim_base.specs.declared.host.HostId.{HostId}
 use Rattle.event_order.specs.Events.{IsLeastDue}
 use Rattle.list_weights.specs.Weights.{weigh, numbers_below}
+use Rattle.list_weights.proofs.Weights.{weigh_append}
 use Rattle.steal_workers.specs.Gathers.{joined}
 use Rattle.file_calls.specs.declared.task.Output.{Output}
 use Rattle.host_state.specs.declared.host.Host.{Host}
@@ -23,14 +24,13 @@ use Rattle.round_lookahead.specs.declared.workers.host_task.HostTask.{HostTask}
 use Rattle.round_lookahead.specs.declared.workers.worked.Done.{Done}
 use Rattle.round_lookahead.specs.declared.workers.worked.Worked.{Worked}
 use Rattle.round_lookahead.specs.declared.world.in_place.Alone.{Alone}
-use Rattle.round_lookahead.specs.inside.Alone.{HasRunFirst, IsPlaced, HasKept, HasPassed, AreRunInPlace, held_by}
+use Rattle.round_lookahead.specs.inside.Alone.{HasRunAll, IsOwn, IsPlaced, IsPlacedIn, HasKept, HasPassed, AreRunInPlace, held_by, task_ids, task_numbers}
 use Rattle.round_parts.specs.Arrivals.{Boxed}
-use Rattle.round_lookahead.specs.inside.Backs.{lists_of, lines_done}
+use Rattle.round_lookahead.specs.inside.Backs.{all_spilled, lists_of, lines_done}
 use Rattle.round_parts.specs.Dues.{lesser_due}
 use Rattle.round_lookahead.specs.inside.Idles.{IsIdle}
 use Rattle.round_lookahead.specs.inside.Rounds.{AreWorks, AreRows, IsRound, all_parcels}
-use Rattle.round_lookahead.specs.Tasks.{IsTask, AreTasksOf}
-use Rattle.round_lookahead.specs.Took.{host_of, hosts_below}
+use Rattle.round_lookahead.specs.Tasks.{IsTask}
 use Rattle.round_lookahead.specs.Works.{HostJob, IsDone, AreDone, numbers, parcels_made}
 use Rattle.round_lookahead.specs.inside.Works.{HasRun, done_of}
 use Rattle.round_parts.proofs.ListFacts.{flat_append}
@@ -62,63 +62,73 @@ lines_more (e ∷ ds) d = ap (λ (l : List Logged). e.lines.items ++ l) (lines_m
 held_more : (ds : List Done) (d : Done) → held_by (ds ++ d ∷ []) ≡ held_by ds ++ d.host.value.queue
 held_more ds d = flat_append (λ (e : Done). e.host.value.queue) ds (d ∷ []) ∙ ap (λ (l : List Event). held_by ds ++ l) (append-nil d.host.value.queue)
 
+get_or_of : {X : Type 0} (xs : List X) (i : ℕ) (x : X) → slice_get xs i ≡ Some x → get_or xs i x ≡ x
+get_or_of [] i x at = refl
+get_or_of (y ∷ xs) zero x at = some_is y x at
+get_or_of (y ∷ xs) (suc i) x at = get_or_of xs i x at
+
 -- a vector of the logic
 abbrev pub holding : {X Y : Type 0} → Vec X Global → (ys : List Y) → length ys < 2 ^ 63 → Vec Y Global
 holding v ys few = record { ptr = v.ptr; len = length ys; cap = length ys; alloc = v.alloc; items = ys; ok = (refl, omega arith); small = few }
 
 -- ---- one host more
 
-host_is : (h : HostId) (number : ℕ) → h.index ≡ number → h ≡ host_of number
-host_is h number same = ap host_of same
+pub numbers_both : (ts us : List HostTask) → task_numbers (ts ++ us) ≡ task_numbers ts ++ task_numbers us
+numbers_both [] us = refl
+numbers_both (t ∷ ts) us = ap (λ (l : List ℕ). t.id.index ∷ l) (numbers_both ts us)
 
-none_run : (net : Net) (end : ℕ) (tasks : List HostTask) (rec : ℕ → HostRecord) (spill : List Parcel) → spill ≡ [] → HasRunFirst net end tasks rec 0 [] spill
-none_run net end tasks rec spill none = record { jobs = []; done = tt; in_order = refl; spilled = none }
-
-one_more : (net : Net) (end : ℕ) (tasks : List HostTask) (rec : ℕ → HostRecord) (count : ℕ) (ds : List Done) (old new : List Parcel) (t : HostTask) (d : Done) (parcels : List Parcel)
-    → slice_get tasks count ≡ Some t → t.id.index ≡ count → HasRun net end t (rec t.id.index) d parcels
-    → new ≡ old ++ parcels → HasRunFirst net end tasks rec count ds old → HasRunFirst net end tasks rec (suc count) (ds ++ d ∷ []) new
-one_more net end tasks rec count ds old new t d parcels dealt is run spill w =
-    let job : HostJob = record { worker = 0; number = t.id.index; ran = run.ran } in
-    let step : IsDone net end 0 tasks rec job d = record { by_worker = refl; task = t; dealt = ap (slice_get tasks) is ∙ dealt; run = run.run } in record {
+one_more : (net : Net) (end worker : ℕ) (all : List HostTask) (rec : ℕ → HostRecord) (ts : List HostTask) (ds : List Done) (old new : List Parcel) (t : HostTask) (d : Done) (parcels : List Parcel)
+    → IsPlacedIn net all rec t → HasRun net end t (rec t.id.index) d parcels
+    → new ≡ old ++ parcels → HasRunAll net end worker all rec ts ds old → HasRunAll net end worker all rec (ts ++ t ∷ []) (ds ++ d ∷ []) new
+one_more net end worker all rec ts ds old new t d parcels placed run spill w =
+    let job : HostJob = record { worker = worker; number = t.id.index; ran = run.ran } in
+    let step : IsDone net end worker all rec job d = record { by_worker = refl; task = t; dealt = placed.0; run = run.run } in record {
       jobs = w.jobs ++ job ∷ [];
-      done = done_more net end 0 tasks rec w.jobs ds job d w.done step;
-      in_order = numbers-more w.jobs job ∙ ap (λ (l : List ℕ). l ++ t.id.index ∷ []) w.in_order ∙ ap (λ (n : ℕ). numbers_below count ++ n ∷ []) is;
+      done = done_more net end worker all rec w.jobs ds job d w.done step;
+      in_order = numbers-more w.jobs job ∙ ap (λ (l : List ℕ). l ++ t.id.index ∷ []) w.in_order ∙ sym (numbers_both ts (t ∷ []));
       spilled = spill ∙ ap (λ (l : List Parcel). l ++ parcels) w.spilled ∙ ap (λ (l : List Parcel). parcels_made net w.jobs ++ l) run.made ∙ sym (made_more net w.jobs job);
     }
 
 -- ---- in their places
 
-pub none_placed : (net : Net) (end : ℕ) (tasks : List HostTask) (a : Alone) → written_in a.outputs ≡ [] → a.lines.items ≡ [] → a.spill.items ≡ [] → a.due ≡ None
-    → AreRunInPlace net end tasks 0 tasks a
-none_placed net end tasks a outputs lines spill due = record {
+pub none_placed : (net : Net) (end worker : ℕ) (tasks : List HostTask) (a : Alone) → written_in a.outputs ≡ [] → a.lines.items ≡ [] → a.spill.items ≡ [] → a.due ≡ None
+    → AreRunInPlace net end worker tasks 0 tasks a
+none_placed net end worker tasks a outputs lines spill due = record {
   ds = [];
   many = refl;
   all = refl;
   places = λ place d at. absurd (let e : None ≡ Some d = at in cc);
   later = λ place h. refl;
-  run = λ rec are. none_run net end tasks rec a.spill.items spill;
+  run = λ all rec are. record { jobs = []; done = tt; in_order = refl; spilled = spill };
   outputs = outputs;
   lines = lines;
   ids = refl;
   due = subst (IsLeastDue []) (sym due) refl;
+  to = subst (All (λ (p : Parcel). p.to.index < length net.known.book)) (sym spill) (λ k d below. absurd (omega (arith, below)));
 }
 
-module _ (net : Net) (end : ℕ) (old now : List HostTask) (i : ℕ) (a : Alone) (t : HostTask) (are : AreTasksOf net old) (here : slice_get now i ≡ Some t) (r : AreRunInPlace net end old i now a) where
+module _ (net : Net) (end worker : ℕ) (old now : List HostTask) (i : ℕ) (a : Alone) (t : HostTask) (are : All (IsOwn net) old) (here : slice_get now i ≡ Some t) (r : AreRunInPlace net end worker old i now a) where
   -- it is the host of its place, as it was
   before : slice_get old i ≡ Some t
   before = sym (r.later i (omega arith)) ∙ here
 
-  numbered : t.id.index ≡ i
-  numbered = (are.each i t before).1.id
+  within : i < length old
+  within = below_get old i t before
 
-  pub may_run_here : (h : HostRecord) × IsTask net t.id.index t h
-  may_run_here = let h = are.each i t before in (h.0, subst (λ (n : ℕ). IsTask net n t h.0) (sym numbered) h.1)
+  is_here : get_or old i t ≡ t
+  is_here = get_or_of old i t before
+
+  taken : take (suc i) old ≡ take i old ++ t ∷ []
+  taken = (let next : suc i ≡ i + 1 = omega arith in ap (λ (n : ℕ). take n old) next ∙ take_more old i t within ∙ ap (λ (x : HostTask). take i old ++ x ∷ []) is_here)
+
+  pub may_run_here : IsOwn net t
+  may_run_here = subst (IsOwn net) is_here (are i t within)
 
   -- one host more was run in its place
   placed_more : (b : Alone) (t' : HostTask) (d : Done) (ps : List Parcel) → d.id ≡ t.id → t'.id ≡ d.id → t'.host ≡ d.host → t'.parcels.items ≡ []
       → ((h : HostRecord) → IsTask net t.id.index t h → HasRun net end t h d ps) → written_in b.outputs ≡ written_in a.outputs ++ d.outputs.items ∷ [] → b.lines.items ≡ a.lines.items ++ d.lines.items
-      → b.spill.items ≡ a.spill.items ++ ps → b.due ≡ lesser_due a.due t'.due → AreRunInPlace net end old (suc i) (slice_set now i t') b
-  placed_more b t' d ps id same host emptied ran outputs lines spill due =
+      → b.spill.items ≡ a.spill.items ++ ps → b.due ≡ lesser_due a.due t'.due → All (λ (p : Parcel). p.to.index < length net.known.book) ps → AreRunInPlace net end worker old (suc i) (slice_set now i t') b
+  placed_more b t' d ps id same host emptied ran outputs lines spill due to =
       record {
         ds = r.ds ++ d ∷ [];
         many = (let long = length_push r.ds d in let many = r.many in omega arith);
@@ -129,62 +139,37 @@ module _ (net : Net) (end : ℕ) (old now : List HostTask) (i : ℕ) (a : Alone)
             let below = below_get r.ds place e l in
             let many = r.many in
             let other : place ≢ i = omega arith in
-            record { task = p.task; at = get_set_other now i place t' other ∙ p.at; number = p.number; id = p.id; host = p.host; emptied = p.emptied })
+            record { task = p.task; at = get_set_other now i place t' other ∙ p.at; id = p.id; host = p.host; emptied = p.emptied })
             (λ (q : (place ≡ length r.ds) × (d ≡ e)).
             let is : place ≡ i = q.0 ∙ r.many in
             subst (λ (x : Done). IsPlaced (slice_set now i t') place x) q.1
-            (record { task = t'; at = ap (slice_get (slice_set now i t')) is ∙ get_set_same now i t t' here; number = ap (λ (x : HostId). x.index) id ∙ numbered ∙ sym is; id = same; host = host; emptied = emptied }))
+            (record { task = t'; at = ap (slice_get (slice_set now i t')) is ∙ get_set_same now i t t' here; id = same; host = host; emptied = emptied }))
             (at_more r.ds d e place at);
         later = λ place h. (let other : place ≢ i = omega arith in get_set_other now i place t' other ∙ r.later place (omega arith));
-        run = λ rec tasks. one_more net end old rec i r.ds a.spill.items b.spill.items t d ps before numbered
-            (ran (rec t.id.index) (subst (λ (n : ℕ). IsTask net n t (rec n)) (sym numbered) (tasks i t before)))
-            spill (r.run rec tasks);
+        run = λ all rec tasks.
+            (let placed : IsPlacedIn net all rec t = subst (IsPlacedIn net all rec) is_here (tasks i t within) in
+            subst (λ (l : List HostTask). HasRunAll net end worker all rec l (r.ds ++ d ∷ []) b.spill.items) (sym taken)
+            (one_more net end worker all rec (take i old) r.ds a.spill.items b.spill.items t d ps placed (ran (rec t.id.index) placed.1) spill (r.run all rec tasks)));
         outputs = outputs ∙ ap (λ (l : List (List Output)). l ++ d.outputs.items ∷ []) r.outputs ∙ sym (map_more (λ (x : Done). x.outputs.items) r.ds d);
         lines = lines ∙ ap (λ (l : List Logged). l ++ d.lines.items) r.lines ∙ sym (lines_more r.ds d);
-        ids = map_more (λ (x : Done). x.id) r.ds d ∙ ap (λ (l : List HostId). l ++ d.id ∷ []) r.ids
-            ∙ ap (λ (h : HostId). hosts_below i ++ h ∷ []) (host_is d.id i (ap (λ (x : HostId). x.index) id ∙ numbered)) ∙ sym (map_more host_of (numbers_below i) i);
+        ids = map_more (λ (x : Done). x.id) r.ds d ∙ ap (λ (l : List HostId). l ++ d.id ∷ []) r.ids ∙ ap (λ (h : HostId). task_ids (take i old) ++ h ∷ []) id
+            ∙ sym (map_more (λ (x : HostTask). x.id) (take i old) t) ∙ ap task_ids (sym taken);
         due = least_more (held_by r.ds) d.host.value.queue (held_by (r.ds ++ d ∷ [])) a.due t'.due b.due (held_more r.ds d) due r.due
             (subst (λ (x : Box Host Global). IsLeastDue x.value.queue t'.due) host (least_of t'.host.value.queue t'.due t'.told));
+        to = subst (All (λ (p : Parcel). p.to.index < length net.known.book)) (sym spill) (All-append (λ (p : Parcel). p.to.index < length net.known.book) a.spill.items ps r.to to);
       }
 
   pub kept_more : (b : Alone) (t' : HostTask) (out : Outbox) → t'.id ≡ t.id → t'.parcels.items ≡ [] → ((h : HostRecord) → IsTask net t.id.index t h → HasRun net end t h (done_of t' out) out.parcels.items)
-      → HasKept t'.due out a b → AreRunInPlace net end old (suc i) (slice_set now i t') b
-  kept_more b t' out id emptied ran kept =
-      placed_more b t' (done_of t' out) out.parcels.items id refl refl emptied ran kept.outputs kept.lines kept.spill kept.due
+      → HasKept t'.due out a b → All (λ (p : Parcel). p.to.index < length net.known.book) out.parcels.items → AreRunInPlace net end worker old (suc i) (slice_set now i t') b
+  kept_more b t' out id emptied ran kept to =
+      placed_more b t' (done_of t' out) out.parcels.items id refl refl emptied ran kept.outputs kept.lines kept.spill kept.due to
 
   -- it had nothing to do, and stays as it is
-  pub passed_more : (b : Alone) → IsIdle end t → HasPassed t.due a b → AreRunInPlace net end old (suc i) (slice_set now i t) b
+  pub passed_more : (b : Alone) → IsIdle end t → HasPassed t.due a b → AreRunInPlace net end worker old (suc i) (slice_set now i t) b
   passed_more b idle passed =
       let d : Done = record { id = t.id; host = t.host; lines = holding a.spill [] (omega arith); outputs = holding a.spill [] (omega arith) } in
       placed_more b t d [] refl refl refl idle.none (λ h is. idle_run net end t h d is idle refl refl refl refl)
-      passed.outputs (passed.lines ∙ sym (append-nil a.lines.items)) (passed.spill ∙ sym (append-nil a.spill.items)) passed.due
-
--- ---- idle workers
-
--- workers that did nothing
-abbrev pub AreIdle : List Worked → Type 0
-AreIdle [] = Unit {0}
-AreIdle (w ∷ works) = (w.done.items ≡ []) × (w.spill.items ≡ []) × AreIdle works
-
-abbrev no_jobs : List Worked → List (List HostJob)
-no_jobs [] = []
-no_jobs (w ∷ works) = [] ∷ no_jobs works
-
-joined-none : (works : List Worked) → joined (no_jobs works) ≡ []
-joined-none [] = refl
-joined-none (w ∷ works) = joined-none works
-
-idle_works : (net : Net) (end : ℕ) (tasks : List HostTask) (rec : ℕ → HostRecord) (worker : ℕ) (works : List Worked) → AreIdle works → AreWorks net end tasks rec worker (no_jobs works) works
-idle_works net end tasks rec worker [] idle = tt
-idle_works net end tasks rec worker (w ∷ works) idle = (subst (AreDone net end worker tasks rec []) (sym idle.0) tt, idle_works net end tasks rec (suc worker) works idle.2)
-
-idle_weight : (h : Parcel → ℕ) (works : List Worked) → AreIdle works → weigh (λ (w : Worked). weigh h w.spill.items) works ≡ 0
-idle_weight h [] idle = refl
-idle_weight h (w ∷ works) idle = (let none : weigh h w.spill.items ≡ 0 = ap (weigh h) idle.1 in let rest = idle_weight h works idle.2 in omega (arith, none, rest))
-
-pub idle_spills : (works : List Worked) → AreIdle works → flat_map (λ (w : Worked). w.spill.items) works ≡ []
-idle_spills [] idle = refl
-idle_spills (w ∷ works) idle = ap (λ (l : List Parcel). l ++ flat_map (λ (x : Worked). x.spill.items) works) idle.1 ∙ idle_spills works idle.2
+      passed.outputs (passed.lines ∙ sym (append-nil a.lines.items)) (passed.spill ∙ sym (append-nil a.spill.items)) passed.due (λ k p below. absurd (omega (arith, below)))
 
 -- ---- empty rows
 
@@ -227,24 +212,26 @@ empty_rows n rows e = record {
 all_contained : (xs ys : List Parcel) → xs ≡ ys → All (λ (p : Parcel). Contains ys p) xs
 all_contained xs ys same = subst (λ (l : List Parcel). All (λ (p : Parcel). Contains l p) xs) same (λ k d lt. Contains-get_or xs k d lt)
 
-pub alone_round : (net : Net) (end : ℕ) (tasks : List HostTask) (rec : ℕ → HostRecord) (first : Worked) (works : List Worked) (rows : List (Vec Boxed Global))
-    → HasRunFirst net end tasks rec (length tasks) first.done.items first.spill.items → AreIdle works → lists_of rows ≡ replicate (length tasks) [] → IsRound net end tasks rec (first ∷ works) rows
-alone_round net end tasks rec first works rows worked idle empty =
-    let jobs : List (List HostJob) = worked.jobs ∷ no_jobs works in
-    let all : joined jobs ≡ worked.jobs = ap (λ (l : List HostJob). worked.jobs ++ l) (joined-none works) ∙ append-nil worked.jobs in
-    let made : parcels_made net (joined jobs) ≡ parcels_made net worked.jobs = ap (parcels_made net) all in
-    let parcels : all_parcels rows (first ∷ works) ≡ parcels_made net (joined jobs) =
-    ap (λ (l : List Parcel). l ++ (first.spill.items ++ flat_map (λ (x : Worked). x.spill.items) works)) (empty_parcels (length tasks) rows empty)
-    ∙ ap (λ (l : List Parcel). first.spill.items ++ l) (idle_spills works idle) ∙ append-nil first.spill.items ∙ worked.spilled ∙ sym made in record {
+spilled_weight : (h : Parcel → ℕ) (works : List Worked) → weigh (λ (w : Worked). weigh h w.spill.items) works ≡ weigh h (all_spilled works)
+spilled_weight h [] = refl
+spilled_weight h (w ∷ works) = (let rest = spilled_weight h works in omega (arith, rest, weigh_append h w.spill.items (all_spilled works)))
+
+-- a round whose packets are in no inbox
+pub spilled_round : (net : Net) (end : ℕ) (tasks : List HostTask) (rec : ℕ → HostRecord) (jobs : List (List HostJob)) (works : List Worked) (rows : List (Vec Boxed Global))
+    → AreWorks net end tasks rec 0 jobs works → numbers (joined jobs) ≡ numbers_below (length tasks) → all_spilled works ≡ parcels_made net (joined jobs)
+    → lists_of rows ≡ replicate (length tasks) [] → IsRound net end tasks rec works rows
+spilled_round net end tasks rec jobs works rows done in_order spilled empty =
+    let parcels : all_parcels rows works ≡ parcels_made net (joined jobs) =
+    ap (λ (l : List Parcel). l ++ all_spilled works) (empty_parcels (length tasks) rows empty) ∙ spilled in record {
       jobs = jobs;
-      done = (worked.done, idle_works net end tasks rec 1 works idle);
-      each_once = subst (λ (l : List ℕ). IsPermutation l (numbers_below (length tasks))) (sym (ap numbers all ∙ worked.in_order)) (IsPermutation-refl (numbers_below (length tasks)));
+      done = done;
+      each_once = subst (λ (l : List ℕ). IsPermutation l (numbers_below (length tasks))) (sym in_order) (IsPermutation-refl (numbers_below (length tasks)));
       parcels = λ h.
           (let none = empty_weight h (length tasks) rows empty in
-          let rest = idle_weight h works idle in
-          let here : weigh h first.spill.items ≡ weigh h (parcels_made net (joined jobs)) = ap (weigh h) (worked.spilled ∙ sym made) in
-          omega (arith, none, rest, here));
+          let all = spilled_weight h works in
+          let here : weigh h (all_spilled works) ≡ weigh h (parcels_made net (joined jobs)) = ap (weigh h) spilled in
+          omega (arith, none, all, here));
       rows_are = empty_rows (length tasks) rows empty;
-      into = all_contained (all_parcels rows (first ∷ works)) (parcels_made net (joined jobs)) parcels;
-      back = all_contained (parcels_made net (joined jobs)) (all_parcels rows (first ∷ works)) (sym parcels);
+      into = all_contained (all_parcels rows works) (parcels_made net (joined jobs)) parcels;
+      back = all_contained (parcels_made net (joined jobs)) (all_parcels rows works) (sym parcels);
     }

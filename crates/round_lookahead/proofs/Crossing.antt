@@ -18,6 +18,8 @@ use Rattle.round_lookahead.specs.contracts.workers.host_task.HostTask as task
 use Rattle.round_lookahead.proofs.workers.host_task.HostTask.TheSendSync as tasks
 use Rattle.round_lookahead.proofs.workers.worked.Worked.TheSendSync as works
 use Rattle.round_lookahead.specs.contracts.workers.bench.Bench as bench
+use Rattle.round_lookahead.specs.contracts.world.share.Share as shares
+use Rattle.round_lookahead.proofs.world.in_place.Alone.TheSendSync as alone
 
 module _ (T : RattleType) where
   seat_fields_send : IsSend T → IsSend (seat_inside.the_row T)
@@ -44,3 +46,6 @@ pub bench_send : IsSend bench.the_row
 bench_send =
     let s = seat_send task.the_row tasks.the_send in let c = carrier_send _ (heap.Box-send parcel.the_row parcels.the_send) in
     declared_send bench.the_type (search sendable, (search sendable depth 20, (search sendable depth 20, (search (works.the_send, sendable) depth 20, tt))))
+
+pub share_send : IsSend shares.the_row
+share_send = declared_send shares.the_type (search (heap.Vec-send, tasks.the_send, sendable) depth 20, (search (alone.the_send, sendable) depth 20, tt))

@@ -2,6 +2,7 @@ pub mod Packets
 pub mod TaskRuns
 pub mod WorkSteps
 pub mod AloneSteps
+pub mod ShareSteps
 pub mod Crossing
 pub mod Spreads
 pub mod RoundSteps

@@ -7,6 +7,7 @@ pub mod Retasks
 pub mod Rounds
 pub mod RoundsInPlace
 pub mod Settles
+pub mod Shares
 pub mod Waits
 pub mod Gains
 pub mod OpeningWorld

@@ -12,6 +12,8 @@ pub(crate) mod retasking;
 pub(crate) mod rounds;
 pub(crate) mod settling;
 pub(crate) mod settling_in_place;
+pub(crate) mod share;
+pub(crate) mod sharing;
 pub(crate) mod showing;
 pub(crate) mod streams;
 pub(crate) mod took;

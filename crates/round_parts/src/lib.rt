@@ -11,5 +11,5 @@ mod posting;
 pub use arriving::{earlier, first_arrival, first_spilled};
 pub use counts::Counts;
 pub use delivery::deliver;
-pub use load::{Load, RoundLoad};
+pub use load::{Load, RoundLoad, Spread};
 pub use posting::post_all;

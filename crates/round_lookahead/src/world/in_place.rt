@@ -1,14 +1,13 @@
-//! A round on one worker: each host is run in its place.
-ghost use Rattle.std.specs.Prelude.{◌≡◌, ◌≤◌, ◌<◌, ◌++◌, [], None, All, IfOk, OnOk, length};
+//! Hosts that one worker runs, each in its place.
+ghost use Rattle.std.specs.Prelude.{◌≡◌, ◌≤◌, ◌<◌, ◌++◌, [], None, All, IfOk, OnOk, length, replicate};
 ghost use Rattle.sim_base.specs.Units.{latest_time};
 ghost use Rattle.run_files.specs.Written.{written_in};
-ghost use Rattle.round_lookahead.specs.inside.Alone.{AreRunInPlace, HasKept, HasPassed};
-ghost use Rattle.round_lookahead.specs.Tasks.{AreTasksOf};
+ghost use Rattle.round_lookahead.specs.inside.Alone.{AreRunInPlace, HasJoined, HasKept, HasPassed, IsOwn};
 
 use crate::workers::host_task::HostTask;
 use host_link::{Logged, Net, Outbox};
 use round_parts::{RoundLoad, earlier};
-use run_files::Written;
+use run_files::{HostWritten, Written};
 use sim_base::{NoMemory, Parcel, Time};
 use std::alloc::Global;
 use steal_workers::Gate;
@@ -23,6 +22,30 @@ pub(crate) struct Alone {
     pub(crate) spill: Vec<Parcel>,
     pub(crate) due: Option<Time>,
     pub(crate) load: RoundLoad,
+}
+
+/// Behind those of other hosts stand so many that wrote nothing. So many of them that there is no number for them have no room.
+fn join_silent(all: &mut Written, count: usize) -> Result<(), NoMemory>
+    ensures { OnOk result (written_in all.new ≡ written_in all.old ++ replicate count []) }
+{
+    let Some(silent) = all.silent.checked_add(count) else {
+        return Err(NoMemory);
+    };
+    all.silent = silent;
+    Ok(())
+}
+
+/// What hosts wrote stands behind what others did.
+fn join_written(all: &mut Written, more: Written) -> Result<(), NoMemory>
+    ensures { OnOk result (written_in all.new ≡ written_in all.old ++ written_in more) }
+{
+    let Written { hosts, silent } = more;
+    for host in hosts {
+        let HostWritten { silent, outputs } = host;
+        join_silent(all, silent)?;
+        all.push(outputs)?;
+    }
+    join_silent(all, silent)
 }
 
 /// Adds items behind others. Where there are no others, they stand in place of these, without a copy.
@@ -40,7 +63,7 @@ fn join<T: Drop>(all: &mut Vec<T>, more: Vec<T>) -> Result<(), NoMemory>
 
 impl Alone {
     /// Nothing yet.
-    fn new(alloc: Global) -> Alone
+    pub(crate) fn new(alloc: Global) -> Alone
         ensures outputs { written_in result.outputs ≡ [] }
         ensures lines { result.lines.items ≡ [] }
         ensures spill { result.spill.items ≡ [] }
@@ -72,6 +95,25 @@ impl Alone {
         Ok(())
     }
 
+    /// Keeps what other hosts made behind it.
+    pub(crate) fn join(&mut self, more: Alone) -> Result<(), NoMemory>
+        ensures { OnOk result (HasJoined more self.old self.new) }
+    {
+        let Alone {
+            outputs,
+            lines,
+            spill,
+            due,
+            load,
+        } = more;
+        join_written(&mut self.outputs, outputs)?;
+        join(&mut self.lines, lines)?;
+        join(&mut self.spill, spill)?;
+        self.due = earlier(self.due, due);
+        self.load.join(load);
+        Ok(())
+    }
+
     /// Keeps that a host had nothing to do, whose first event is due at this time.
     fn pass(&mut self, due: Option<Time>) -> Result<(), NoMemory>
         ensures { OnOk result (HasPassed due self.old self.new) }
@@ -82,24 +124,24 @@ impl Alone {
     }
 }
 
-/// Runs the hosts of all tasks up to `end`, each in its place. Before it runs a host it tells the gate; one with nothing to do stays as
-/// it is. Fails for want of memory alone.
+/// Runs the hosts of tasks up to `end`, each in its place, as one worker. Before it runs a host it tells the gate; one with nothing to do
+/// stays as it is. Fails for want of memory alone.
 pub(crate) fn run_in_place<G: Gate>(
     alloc: Global,
     net: &Net,
     end: Time,
+    worker: u32,
     tasks: &mut [HostTask],
     gate: &G,
 ) -> Result<Alone, NoMemory>
     requires stop { net.now.stop.nanos ≤ latest_time }
     requires until { end.nanos ≤ net.now.stop.nanos }
-    requires tasks { AreTasksOf net.now tasks.old }
-    ensures to { IfOk result (λ alone. All (λ parcel. parcel.to.index < length net.now.known.book) alone.spill.items) }
-    ensures run { IfOk result (λ alone. AreRunInPlace net.now end.nanos tasks.old (length tasks.old) tasks.new alone) }
+    requires tasks { All (IsOwn net.now) tasks.old }
+    ensures { IfOk result (λ alone. AreRunInPlace net.now end.nanos worker tasks.old (length tasks.old) tasks.new alone) }
 {
     let mut alone = Alone::new(alloc);
     for task in tasks.iter_mut() {
-        gate.at_host(0, task.id.index);
+        gate.at_host(worker, task.id.index);
         if task.is_busy(end) {
             let before = task.work;
             let out = task.run_here(alloc, net, end)?;

@@ -16,6 +16,7 @@ use crate::world::pieces::Pieces;
 use crate::world::settling::{Settled, settle};
 use crate::world::settling_in_place::{RanInPlace, round_in_place};
 use crate::world::world_state::World;
+use round_parts::Spread;
 use run_files::round_pieces;
 use sim_base::{NoMemory, Time};
 use std::alloc::Global;
@@ -47,18 +48,18 @@ impl World {
         self.load.all()
     }
 
-    /// In how many threads the round up to the end is run, by so many workers: in as many as it is worth, and no more than could run
-    /// it. Where one is enough by what the last rounds had to do, no host is looked at.
-    fn threads(&self, end: Time, workers: u32) -> u32
+    /// How the round up to the end is run by so many workers: in as many threads as it is worth, and no more than could run it. Where
+    /// it can't be worth any by what the last rounds had to do, no host is looked at.
+    fn spread(&self, end: Time, workers: u32) -> Spread
         requires { 0 < workers }
-        ensures { (0 < result) × (result ≤ workers) }
+        ensures { (0 < result.threads) × (result.threads ≤ workers) }
     {
-        let hosts = self.tasks.len();
-        if workers < 2 || self.load.threads(workers, hosts, 0) < 2 {
-            return 1;
+        if workers < 2 || !self.load.may_spread() {
+            return Spread::alone();
         }
         let busy = busy_count(self.tasks.as_slice(), end);
-        self.load.threads(most_threads(busy, workers), hosts, busy)
+        self.load
+            .spread(most_threads(busy, workers), self.tasks.len(), busy)
     }
 
     /// The round whose least event is due at `least`.
@@ -79,13 +80,13 @@ impl World {
         ensures turns { IfOk result (λ gained. (w : HostWorld) → WorldStands self.old w → (v : HostWorld) × HasGained self.old self.new workers w v gained) }
     {
         let window = self.net.window(least, self.lookahead);
-        let threads = self.threads(window.end, workers);
+        let spread = self.spread(window.end, workers);
         let count = self.tasks.len();
         let mut tasks = mem::replace(&mut self.tasks, Vec::new(alloc));
         self.due = None;
-        if threads < 2 {
+        if spread.threads < 2 || spread.share.is_some() {
             let RanInPlace { gained, due, load } = round_in_place(
-                alloc, &self.net, window.end, &mut tasks, workers, gate,
+                rt, alloc, &self.net, window.end, &mut tasks, workers, spread, gate,
             )?;
             self.tasks = tasks;
             self.due = due;
@@ -95,7 +96,14 @@ impl World {
         }
         let before = works_of(alloc, tasks.as_slice())?;
         let RoundLeft { works, rows } = run_beside(
-            rt, alloc, &self.net, window.end, tasks, workers, threads, gate,
+            rt,
+            alloc,
+            &self.net,
+            window.end,
+            tasks,
+            workers,
+            spread.threads,
+            gate,
         )?;
         let Settled { tasks, gained } = settle(alloc, count, works, rows)?;
         self.tasks = tasks;
@@ -134,7 +142,7 @@ impl World {
             lines,
             took,
         } = self.advance(rt, alloc, least, workers, gate)?;
-        let threads = took.threads();
+        let threads = took.threads(lines.len());
         let files = round_pieces(rt, alloc, &self.listing, &outputs, lines, threads)?;
         Ok(Pieces { files, took })
     }

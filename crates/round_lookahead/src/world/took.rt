@@ -11,12 +11,15 @@ pub enum Took {
     Each(Vec<Vec<HostId>>),
 }
 
+/// How many lines of a round are worth a thread for their text at least.
+const TEXT_LINES: usize = 2_048;
+
 impl Took {
-    /// How many threads may make the text of the round's lines: as many as it had workers side by side.
-    pub(crate) fn threads(&self) -> usize {
+    /// How many threads may make the text of so many lines of the round: as many as it had workers side by side, where the lines are many.
+    pub(crate) fn threads(&self, lines: usize) -> usize {
         match self {
             Took::First { .. } => 1,
-            Took::Each(lists) => lists.len(),
+            Took::Each(lists) => lists.len().min(lines / TEXT_LINES),
         }
     }
 }

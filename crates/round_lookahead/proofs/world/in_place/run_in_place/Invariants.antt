@@ -1,4 +1,4 @@
-use Rattle.std.proofs.Common.{◌<◌, ◌≤◌, All, length}
+use Rattle.std.proofs.Common.{◌≤◌, length}
 use Rattle.round_lookahead.specs.inside.Alone.{AreRunInPlace}
 use Rattle.round_lookahead.proofs.world.in_place.run_in_place.Given as goal
 
@@ -6,6 +6,5 @@ use Rattle.round_lookahead.proofs.world.in_place.run_in_place.Given as goal
 abbrev pub invariant-loop-task : goal.invariant-loop-task
 invariant-loop-task g l = record {
   few : l.task-index ≤ length l.fn.tasks;
-  to : All (λ parcel. parcel.to.index < length l.fn.net.known.book) l.alone.spill.items;
-  run : AreRunInPlace l.fn.net l.fn.end.nanos l.initial.tasks l.task-index l.tasks l.alone;
+  run : AreRunInPlace l.fn.net l.fn.end.nanos l.fn.worker l.initial.tasks l.task-index l.tasks l.alone;
 }

@@ -39,7 +39,7 @@ returns-clause-turns g c = λ w stands.
     c.count_into-2.new.counts c.count_into-2.ensures c.note-2.new.self _ _
 
 pub round_in_place-requires-clause-few : goal.round_in_place-requires-clause-few
-round_in_place-requires-clause-few g c =
+round_in_place-requires-clause-few g c κs lives =
     let s = c.requires.stands.1 in
     let count = s.count in
     let book = s.between.count in
@@ -48,10 +48,10 @@ round_in_place-requires-clause-few g c =
     omega arith
 
 pub round_in_place-requires-clause-tasks : goal.round_in_place-requires-clause-tasks
-round_in_place-requires-clause-tasks g c =
+round_in_place-requires-clause-tasks g c κs lives =
     subst (λ (v : Vec HostTask Global). AreTasksOf c.args.self.now.net v.items) (sym c.replace-tasks.ensures.value) (all_tasks c.args.self.now c.requires.stands.0 c.requires.stands.1)
 
-pub returns-then-threads-lt2-clause-turns : goal.returns-then-threads-lt2-clause-turns
-returns-then-threads-lt2-clause-turns g c = λ w stands.
+pub returns-then-spread-lt2-clause-turns : goal.returns-then-spread-lt2-clause-turns
+returns-then-spread-lt2-clause-turns g c = λ w stands.
     goes_on_here c.args.self.now w stands c.args.least c.requires.least c.args.workers c.replace-tasks.result c.replace-tasks.ensures.value c.round_in_place.new.tasks c.window-window.result.end.nanos c.window-window.ensures.end
     c.in_ok-gained.field-0.gained c.in_ok-gained.ensures.round c.count_into.new.counts c.count_into.ensures c.note.new.self _ _
