@@ -7,6 +7,7 @@ mod arcs;
 mod cost;
 mod error;
 mod finding;
+mod guesses;
 mod hop;
 mod kept;
 mod kept_row;

@@ -5,6 +5,7 @@ ghost use Rattle.std.specs.Bool.{OnTrue};
 ghost use Rattle.net_routes.specs.inside.Numbers.{KeepNumbers, GetsNumberIf, GetNumbers};
 
 use crate::cost::Cost;
+use crate::guesses::Guesses;
 use crate::kept::Kept;
 use crate::route_row::RouteRow;
 use sim_base::NoMemory;
@@ -18,6 +19,7 @@ use std::marker::Model;
 pub struct NumberedCosts {
     costs: Vec<Kept>,
     numbers: HashMap<Option<Cost>, u16>,
+    guesses: Guesses,
 }
 
 impl Model for NumberedCosts {
@@ -41,6 +43,7 @@ impl NumberedCosts {
         NumberedCosts {
             costs: Vec::new(alloc),
             numbers: HashMap::new(alloc),
+            guesses: Guesses::new(alloc),
         }
     }
 
@@ -86,36 +89,37 @@ impl NumberedCosts {
         }
     }
 
-    /// The number of a cost, where it is the one behind another number, the one before it, or that one itself.
-    fn number_near(&self, near: u16, cost: Option<Cost>) -> Option<u16>
+    /// The number of a cost, where it is the one behind another number, or the one that a cost of its place had last.
+    fn guessed(&self, near: u16, cost: Option<Cost>) -> Option<u16>
         ensures { IfSome result (λ n. slice_get self.now n ≡ Some cost) }
     {
         let next = near.wrapping_add(1);
         if self.is_under(next, cost) {
             return Some(next);
         }
-        let before = near.wrapping_sub(1);
-        if self.is_under(before, cost) {
-            return Some(before);
-        }
-        if self.is_under(near, cost) {
-            return Some(near);
+        let last = self.guesses.get(cost)?;
+        if self.is_under(last, cost) {
+            return Some(last);
         }
         None
     }
 
-    /// The number of a cost, as `number_of` tells it. It is looked for near another number first, where costs that follow one
-    /// another in a row often are: they get their numbers so, and rows are alike.
+    /// The number of a cost, as `number_of` tells it. It is guessed first: costs that follow one another in a row often have numbers
+    /// that do, and the others were asked for before.
     fn number_from(&mut self, near: u16, cost: Option<Cost>) -> Result<Option<u16>, NoMemory>
         ensures number { IfOk result (λ o. IfSome o (λ n. slice_get self.new n ≡ Some cost)) }
         ensures full { IfOk result (λ o. IfNone o (2 ^ 16 ≤ length self.new)) }
         ensures kept { KeepNumbers self.old self.new }
         ensures added { GetsNumberIf cost self.old self.new }
     {
-        match self.number_near(near, cost) {
-            Some(number) => Ok(Some(number)),
-            None => self.number_of(cost),
+        if let Some(number) = self.guessed(near, cost) {
+            return Ok(Some(number));
         }
+        let found = self.number_of(cost)?;
+        if let Some(number) = found {
+            self.guesses.set(cost, number);
+        }
+        Ok(found)
     }
 
     /// The numbers of the costs of a row, or nothing where numbers don't last: all 65,536 are taken.
@@ -131,6 +135,7 @@ impl NumberedCosts {
         ensures added { GetNumbers row.now self.old self.new }
     {
         let mut numbers = Vec::with_capacity(alloc, row.len())?;
+        self.guesses.open(alloc)?;
         let mut near = 0;
         for place in 0..row.len() {
             match self.number_from(near, row.get(place))? {
@@ -149,5 +154,6 @@ impl NumberedCosts {
         ensures { self.new ≡ self.old }
     {
         self.numbers = HashMap::new(alloc);
+        self.guesses = Guesses::new(alloc);
     }
 }
