@@ -50,6 +50,7 @@ impl CodePage {
         CodePage { shared, slot }
     }
 
+    /// The page's bytes, in the order of their offsets: as many as a page has.
     pub fn bytes(&self) -> &[u8]
         ensures { result.now ≡ self.now }
     {

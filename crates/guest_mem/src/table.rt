@@ -124,8 +124,8 @@ impl PageTable {
         }
     }
 
-    /// The page with this number, where it may be executed and not written, and never was, apart from this table. The page at the hint's
-    /// place is tried first, and the hint is the page's that was found.
+    /// The page with this number, where it may be executed and not written, and never was written, apart from this table. The page at the
+    /// hint's place is tried first, and the hint is the page's that was found.
     #[inline]
     pub fn code_page(&self, number: u32, hint: &mut FetchHint) -> Option<CodePage>
         requires { number < 2 ^ 20 }

@@ -15,6 +15,9 @@ use sock_udp::UdpEnds;
 use std::alloc::Global;
 use std::marker::Model;
 
+/// So few sockets are looked at one by one for a datagram: they stand side by side in memory, and parts of an index don't.
+const FEW: usize = 8;
+
 /// What the UDP sockets of a host are bound and connected to, by their numbers; none has the number of
 /// a socket that was closed.
 ///
@@ -203,8 +206,8 @@ impl UdpTable {
     {
         let places = self.places.as_slice();
         match &self.index {
-            Some(index) => index.taker(places, from, to),
-            None => taker_in(places, from, to),
+            Some(index) if places.len() > FEW => index.taker(places, from, to),
+            _ => taker_in(places, from, to),
         }
     }
 }
