@@ -34,7 +34,7 @@ module _ (t : SinkTarget) (bytes more : List ℕ) where
   bytes_behind at (p ∷ ps) = ap (λ (bs : List ℕ). (if is_target p.0 at then p.1 else []) ++ bs) (bytes_behind at ps)
       ∙ sym (append_assoc (if is_target p.0 at then p.1 else []) (bytes_at at ps) (if is_target t at then more else []))
 
-  touched_behind : (at : SinkTarget) (ps : List Put) → is_touched at (behind ps) ≡ (is_touched at ps || is_target t at)
+  pub touched_behind : (at : SinkTarget) (ps : List Put) → is_touched at (behind ps) ≡ (is_touched at ps || is_target t at)
   touched_behind at [] = or_false (is_target t at)
     where
       or_false : (b : Bool) → (b || false) ≡ b

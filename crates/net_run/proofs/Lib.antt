@@ -3,6 +3,7 @@ mod ListingLemmas
 mod FrontLemmas
 mod ContentLemmas
 mod GatherLemmas
+mod LastLemmas
 mod NameLemmas
 mod SplitLemmas
 mod FileLemmas

@@ -1,2 +1,3 @@
 -- what only contracts within the crate and proofs name
+pub mod Gathered
 pub mod Rest

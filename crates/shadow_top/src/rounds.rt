@@ -20,9 +20,9 @@ use std::alloc::AllocGlobal;
 use std::thread::Threads;
 use steal_workers::Gate;
 
-/// How many instructions of guests, about, are worth putting what was gained meanwhile: they take some milliseconds. So a run that has
-/// quick rounds makes few calls, and the files of one that has slow rounds grow with each.
-const PUT_WORTH: u64 = 1_000_000;
+/// How many instructions of guests, about, are worth putting what was gained meanwhile: they take some hundredths of a second. So a run
+/// that has quick rounds makes few calls, and the files of one that has slow rounds grow with each.
+const PUT_WORTH: u64 = 10_000_000;
 
 /// Makes the next round, and gathers what it gained.
 fn gather_next<G: Gate + Sync, R: Threads + Sync + AllocGlobal>(
@@ -40,7 +40,7 @@ fn gather_next<G: Gate + Sync, R: Threads + Sync + AllocGlobal>(
     ensures gathered { OnOk result ((w : HostWorld) → WorldStands world.old w → GathersRound world.old world.new workers w gathered.old gathered.new) }
 {
     let Pieces { files, took: _ } = world.round(rt, rt.alloc(), workers, gate)?;
-    gathered.add(files)
+    gathered.add(rt.alloc(), files)
 }
 
 /// What the rounds had to do when what they gained was put last.

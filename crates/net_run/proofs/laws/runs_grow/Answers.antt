@@ -1,7 +1,6 @@
 use Rattle.std.proofs.Common.{refl}
 use Rattle.net_run.proofs.ToldLemmas.{opening_names, status_told}
 use Rattle.net_run.proofs.UnderwayLemmas.{underway_opening, underway_part, underway_round, underway_end}
-use Rattle.net_run.specs.Heads.{all_heads}
 use Rattle.net_run.specs.Pieces.{with_pieces}
 use Rattle.net_run.specs.Rest.{all_rest, summary_in}
 use Rattle.net_run.specs.World.{opening_world}

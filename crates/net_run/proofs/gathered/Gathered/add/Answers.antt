@@ -12,7 +12,8 @@ loop-piece-preserved c =
     let old : List Put = map put_of c.loop-piece.self-inside.pieces.items in
     let is : into_iter_items c.loop-piece.piece-iterator ≡ c.in-Some.piece ∷ rest = c.in-Some.ensures.steps.0 in record {
       whole = λ k.
-          ap (with_pieces (map put_of rest)) (c.in_ok-add_piece.ensures k ∙ with_append old (put_of c.in-Some.piece ∷ []) k)
+          ap (with_pieces (map put_of rest)) (c.in_ok-add_piece.ensures.whole k ∙ with_append old (put_of c.in-Some.piece ∷ []) k)
           ∙ ap (λ (ps : List Piece). with_pieces (map put_of ps) (with_pieces old k)) (sym is)
           ∙ c.loop-piece.invariant.whole k;
+      last = c.in_ok-add_piece.ensures.last;
     }
