@@ -83,6 +83,12 @@ module _ (t : SinkTarget) (bytes more : List ℕ) where
 pub one_before : (t : SinkTarget) (p : Put) (ps qs : List Put) → qs ≡ p ∷ ps → is_target p.0 t ≡ false → is_touched t ps ≡ false → is_touched t qs ≡ false
 one_before t p ps qs is other none = ap (is_touched t) is ∙ ap (λ (b : Bool). b || is_touched t ps) other ∙ none
 
+-- what a piece puts, at its place
+pub put_at : (k : ℕ) (ps : List Piece) {p : Piece} → slice_get ps k ≡ Some p → slice_get (map put_of ps) k ≡ Some (put_of p)
+put_at k [] is = absurd (cc)
+put_at zero (p ∷ ps) is = ap (option_map put_of) is
+put_at (suc k) (p ∷ ps) is = put_at k ps is
+
 -- more bytes at the end of the last piece for a target, among pieces, are a piece behind all
 pub joined_in : (pieces : List Piece) (k : ℕ) (was piece : Piece) (bytes : List ℕ) → k < length pieces → was ≡ get_or pieces k was
     → ((d : Piece) → is_target (get_or pieces k d).target piece.target ≡ true) → is_touched piece.target (drop (k + 1) (map put_of pieces)) ≡ false → bytes ≡ was.bytes ++ piece.bytes
@@ -90,14 +96,9 @@ pub joined_in : (pieces : List Piece) (k : ℕ) (was piece : Piece) (bytes : Lis
 joined_in pieces k was piece bytes below is here none both c =
     let same : was.target ≡ piece.target = same_target was.target piece.target (ap (λ (p : Piece). is_target p.target piece.target) is ∙ here was) in
     let next : suc k ≡ k + 1 = omega arith in
-    let found : slice_get (map put_of pieces) k ≡ Some (was.target, was.bytes) = slice_get_map k pieces (slice_get-get_or pieces k was below ∙ ap Some (sym is)) in
+    let found : slice_get (map put_of pieces) k ≡ Some (was.target, was.bytes) = put_at k pieces (slice_get-get_or pieces k was below ∙ ap Some (sym is)) in
     let last : is_touched was.target (drop (suc k) (map put_of pieces)) ≡ false =
     ap (λ (t : SinkTarget). is_touched t (drop (suc k) (map put_of pieces))) same ∙ ap (λ (j : ℕ). is_touched piece.target (drop j (map put_of pieces))) next ∙ none in
     ap (λ (ps : List Put). with_pieces ps c) (map-set put_of pieces k (record { target = was.target; bytes = bytes }) ∙ ap (λ (bs : List ℕ). slice_set (map put_of pieces) k (was.target, bs)) both)
     ∙ joined was.target was.bytes piece.bytes (map put_of pieces) k found last c
     ∙ ap (λ (t : SinkTarget). with_pieces (map put_of pieces ++ (t, piece.bytes) ∷ []) c) same
-  where
-    slice_get_map : (k : ℕ) (ps : List Piece) {p : Piece} → slice_get ps k ≡ Some p → slice_get (map put_of ps) k ≡ Some (put_of p)
-    slice_get_map k [] is = absurd (cc)
-    slice_get_map zero (p ∷ ps) is = ap (option_map put_of) is
-    slice_get_map (suc k) (p ∷ ps) is = slice_get_map k ps is

@@ -1,5 +1,5 @@
 -- The last pieces for files, as slots have their places.
-use Rattle.std.proofs.Common.{◌≡◌, ℕ, zero, suc, ◌+◌, ◌<◌, ◌≤◌, Bool, true, false, List, [], ◌∷◌, ◌++◌, length, drop, map, get_or, option_map, arith, Vec, Global, refl, sym, ap, ◌∙◌, subst, inl, inr}
+use Rattle.std.proofs.Common.{◌≡◌, ℕ, zero, suc, ◌+◌, ◌<◌, ◌≤◌, Bool, true, false, List, [], ◌∷◌, ◌++◌, length, drop, map, get_or, arith, Vec, Global, refl, sym, ap, ◌∙◌, subst, inl, inr}
 use Rattle.std.specs.Prelude.{◌||◌, ◌==◌, vec_len, slice_set, slice_get, Some, None}
 use Rattle.std.proofs.lemmas.Bool.{cases_eq, eqb-true}
 use Rattle.std.proofs.lemmas.List.{map-set, nil_from_length}
@@ -10,7 +10,7 @@ use Rattle.run_files.specs.Files.{Put, put_of}
 use Rattle.run_files.specs.declared.piece.Piece.{Piece}
 use Rattle.net_run.specs.Targets.{is_target, is_touched}
 use Rattle.net_run.specs.inside.Gathered.{AreLast, slot_of}
-use Rattle.net_run.proofs.GatherLemmas.{same_target, touched_behind}
+use Rattle.net_run.proofs.GatherLemmas.{put_at, same_target, touched_behind}
 
 -- what a slot has after another one was set, or it itself
 slot_set : (xs : List ℕ) (i v k : ℕ) → slice_get (slice_set xs i v) i ≡ Some k → k ≡ v
@@ -122,11 +122,6 @@ pub no_slot : (xs : List ℕ) (i : ℕ) → length xs ≤ i → slice_get xs i �
 no_slot [] i over = refl
 no_slot (x ∷ xs) zero over = absurd (omega (arith, over))
 no_slot (x ∷ xs) (suc i) over = no_slot xs i (omega (arith, over))
-
-put_at : (k : ℕ) (ps : List Piece) {p : Piece} → slice_get ps k ≡ Some p → slice_get (map put_of ps) k ≡ Some (put_of p)
-put_at k [] is = absurd (cc)
-put_at zero (p ∷ ps) is = ap (option_map put_of) is
-put_at (suc k) (p ∷ ps) is = put_at k ps is
 
 -- of the pieces of files, that at the place of a file's slot
 pub last_at : (pieces : List Piece) (slots : List ℕ) (name : List ℕ) (k : ℕ) (p : Piece) → AreLast (map put_of pieces) slots → slice_get slots (slot_of name) ≡ Some k
